@@ -248,7 +248,7 @@ class Page:
         return text + (f", still at the end: {self.tag_names(list(dict.fromkeys(lasting)))}" if lasting else "")
 
     def missing_text(self):
-        missing, gaps = self.indices(lambda it: not it.heaviest.is_slow()), self.indices(lambda it: it.heaviest.kind == "gap")
+        missing, gaps = self.indices(lambda it: not it.heaviest.is_slow()), self.indices(lambda it: self.kind(it) == "No samples")
         if not missing:
             return ""
         where = (self.where("no samples in", gaps) or self.where("heaviest", missing)) if len(missing) > 1 else ""
@@ -305,14 +305,29 @@ class Page:
         most = max(first.rises, key=lambda it: (it.value + 1) * 1000 // (it.usual + 1))
         shown = [it for it in first.rises if it is first.rises[0] or it is most]
         text = "".join(f", {self.rise_text(it)}" for it in shown) + (f" in {self.tag(first.tag)}" if len(incident.episodes) > 1 else "")
-        return text + (f"; samples/s {rate_text(first.rates[1])} -> {rate_text(first.rates[0])}" if first.rates else "")
+        if not first.rates:
+            return text
+        rate, usual = first.rates
+        part = f" for {length_text(rate.time)}" if rate.time < first.end - first.start else ""
+        return f"{text}; samples/s {rate_text(usual)} -> {rate_text(rate)}{part}"
+
+    def was_stalled(self, one):
+        """Whether a tag had no samples, and then a percentile took half of this time, as far as the unit is known."""
+        if one.kind != "stall" or self.unit is None:
+            return one.kind == "stall"
+        return max(it.value for it in one.rises) * UNIT_MS[self.unit] >= (one.end - one.start) // 2
 
     def is_stalled(self, incident):
-        """Whether a tag had no samples and then slow ones, of which one took half of this time, as far as the unit is known."""
-        stalls = [it for it in incident.episodes if it.kind == "stall"]
-        if self.unit is None:
-            return bool(stalls)
-        return any(self.tags[it.tag].greatest * UNIT_MS[self.unit] >= (it.end - it.start) // 2 for it in stalls)
+        return any(map(self.was_stalled, incident.episodes))
+
+    def kind(self, incident):
+        """What happened in all tags of an incident, or in some."""
+        if not incident.heaviest.is_slow():
+            are_empty = [it.kind == "gap" and not it.rates[0].samples for it in incident.episodes]
+            return "No samples" if all(are_empty) else "No or fewer samples" if are_empty[0] else "Fewer samples"
+        if self.is_stalled(incident):
+            return "Stalled" if all(map(self.was_stalled, incident.episodes)) else "Stalled or slow"
+        return "No samples and then slow" if all(it.kind == "stall" for it in incident.episodes) else "Slow"
 
     def span(self, one):
         until = ", until the end" if one.lasts else ""
@@ -332,23 +347,22 @@ class Page:
     def incident(self, incident):
         """What an incident is, when, for how long, of which tags, how bad, and when others were."""
         first = incident.heaviest
-        slow = "Stalled" if self.is_stalled(incident) else "No samples and then slow" if incident.has_stall() else "Slow"
-        kind = {"gap": "No samples", "fall": "Fewer samples"}.get(first.kind, slow)
+        kind = self.kind(incident)
         text = f"{kind} {self.span(first)}: {self.tag_names(incident.tags())}"
         if first.is_slow():
             return text + self.slowness(incident) + self.other_times(incident)
-        rate = f", {rate_text(first.rates[0])}/s" if first.kind == "fall" else ""
+        rate = f", {rate_text(first.rates[0])}/s" if kind == "Fewer samples" else ""
         where = f" in {self.tag(first.tag)}" if len(incident.episodes) > 1 else ""
         return f"{text}{rate} (usually {rate_text(first.rates[1])}/s{where}){self.other_times(incident)}"
 
     def group(self, line):
         """How many incidents are alike, how long they are and how often they come."""
-        times = [(it.start, it.end) for it in (self.verdict.incidents[at].heaviest for at in line.all)]
-        strides = sorted(after[0] - it[0] for it, after in zip(times, times[1:]))
-        longest = length_text(max(end - start for start, end in times))
+        all_of = [self.verdict.incidents[at] for at in line.all]
+        strides = sorted(after.heaviest.start - it.heaviest.start for it, after in zip(all_of, all_of[1:]))
+        longest = length_text(max(it.end - it.start for one in all_of for it in one.episodes))
         median = strides[len(strides) // 2]
         every = f", about every {length_text(median)}" if 2 * strides[0] >= median and strides[-1] <= 2 * median else ""
-        return f"{len(times):,} times, each {longest} at most{every}; heaviest: "
+        return f"{len(all_of):,} times, each {longest} at most{every}; heaviest: "
 
     def incident_lines(self):
         for at, line in enumerate(self.named):
@@ -361,13 +375,13 @@ class Page:
     def tested_text(self):
         tags, whole, part, none = len(self.tags), [], [], []
         for name, (num, den) in TAILS.items():
-            count, fewest = sum(name in it.tested for it in self.verdict.tags), f"below {IN_TAIL * FEWEST_BLOCKS * den // num:,} samples)"
+            count, fewest = sum(name in it.tested for it in self.verdict.tags), f"(it takes {IN_TAIL * FEWEST_BLOCKS * den // num:,} samples or more)"
             if count == tags:
                 whole.append(name)
             elif count:
-                part.append(f"{name} of {count} of {tags} tags (the others have {fewest}")
+                part.append(f"{name} of {count} of {tags} tags {fewest}")
             else:
-                none.append(f"{name} ({fewest}")
+                none.append(f"{name} {fewest}")
         text = ", ".join(whole) + (f" of all {tags} tags" if whole and tags > 1 else "")
         text = "; ".join([*([text] if text else []), *part]) or "nothing"
         if all(it.cells < FEWEST_BLOCKS for it in self.verdict.tags):

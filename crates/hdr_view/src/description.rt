@@ -3,7 +3,6 @@
 use crate::clock::TimeStyle;
 use crate::naming::LETTERS;
 use crate::view::View;
-use hdr_verdict::EpisodeKind;
 use std::alloc::AllocError;
 
 impl View<'_> {
@@ -20,12 +19,9 @@ impl View<'_> {
                 text.push_str(" ")?;
             }
             text.push_str(letter)?;
-            text.push_str(match incident.heaviest.kind {
-                EpisodeKind::Gap => ": no samples from ",
-                EpisodeKind::Fall => ": fewer samples from ",
-                EpisodeKind::Stall => ": stalled from ",
-                EpisodeKind::Slow => ": slow from ",
-            })?;
+            text.push_str(": ")?;
+            text.push_str(self.kind_of(incident).phrase())?;
+            text.push_str(" from ")?;
             self.clock
                 .push(text, incident.heaviest.start, TimeStyle::Full)?;
             text.push_str(".")?;

@@ -1,10 +1,11 @@
 //! The lines of incidents.
 
 use crate::clock::{TimeStyle, push_length};
+use crate::kind::IncidentKind;
 use crate::naming::{LETTERS, NamedIncidents, tags_of};
 use crate::view::{PageForm, View};
 use hdr_draw::number::{Decimal, push_grouped};
-use hdr_verdict::{Episode, EpisodeKind, Incident, Rate, RateChange, Rise, Tail};
+use hdr_verdict::{Episode, Incident, Rate, RateChange, Rise, Tail};
 use std::alloc::AllocError;
 
 /// A ratio, in tenths, from which on it is written as an integer.
@@ -65,8 +66,8 @@ impl View<'_> {
             let Some(incident) = self.verdict.incidents.get(*index) else {
                 continue;
             };
-            let Episode { start, end, .. } = incident.heaviest;
-            longest = end.saturating_sub(start).max(longest);
+            let start = incident.heaviest.start;
+            longest = longest_in(incident).max(longest);
             if let Some(before) = before {
                 let stride: u64 = start.saturating_sub(before);
                 strides.push(stride).map_err(|_| AllocError)?;
@@ -84,20 +85,14 @@ impl View<'_> {
 
     /// Appends what an incident is, when, for how long, of which tags, and how bad.
     fn push_incident(&self, text: &mut String, incident: &Incident) -> Result<(), AllocError> {
-        let kind = incident.heaviest.kind;
-        text.push_str(match kind {
-            EpisodeKind::Gap => "No samples",
-            EpisodeKind::Fall => "Fewer samples",
-            _ if self.is_stalled(incident) => "Stalled",
-            _ if incident.has_stall() => "No samples and then slow",
-            _ => "Slow",
-        })?;
+        let kind = self.kind_of(incident);
+        text.push_str(kind.title())?;
         self.push_span(text, &incident.heaviest)?;
         text.push_str(": ")?;
         self.push_tags(text, &tags_of(self.alloc, incident)?)?;
         match kind {
-            EpisodeKind::Gap => self.push_usually(text, incident)?,
-            EpisodeKind::Fall => self.push_fall(text, incident)?,
+            IncidentKind::Empty | IncidentKind::PartlyEmpty => self.push_usually(text, incident)?,
+            IncidentKind::Fewer => self.push_fall(text, incident)?,
             _ => self.push_slowness(text, incident)?,
         }
         self.push_other_times(text, incident)
@@ -192,13 +187,24 @@ impl View<'_> {
             }
         }
         self.push_heaviest_tag(text, incident)?;
-        let Some(rates) = incident.heaviest.rates else {
+        self.push_rates(text, &incident.heaviest)
+    }
+
+    /// Appends the usual rate of a slow time and the rate of the last part of it in which samples
+    /// were missing, with the length of the part if it is shorter.
+    fn push_rates(&self, text: &mut String, episode: &Episode) -> Result<(), AllocError> {
+        let Some(RateChange { rate, usual }) = episode.rates else {
             return Ok(());
         };
         text.push_str("; samples/s ")?;
-        push_rate(text, rates.usual)?;
+        push_rate(text, usual)?;
         self.push_arrow(text)?;
-        push_rate(text, rates.rate)
+        push_rate(text, rate)?;
+        if rate.time < episode.end.saturating_sub(episode.start) {
+            text.push_str(" for ")?;
+            push_length(text, rate.time)?;
+        }
+        Ok(())
     }
 
     /// Appends a percentile, its usual value and its value.
@@ -226,6 +232,16 @@ impl View<'_> {
             PageForm::Plain => " -> ",
         })
     }
+}
+
+/// Returns the length of the longest episode of an incident.
+fn longest_in(incident: &Incident) -> u64 {
+    let Episode { start, end, .. } = incident.heaviest;
+    let mut longest: u64 = end.saturating_sub(start);
+    for episode in &incident.joined {
+        longest = episode.end.saturating_sub(episode.start).max(longest);
+    }
+    longest
 }
 
 /// Whether two episodes begin at one time, and end at one time.

@@ -6,6 +6,7 @@ pub mod amount;
 pub mod clock;
 mod description;
 pub mod incidents;
+mod kind;
 pub mod name;
 pub mod naming;
 pub mod options;

@@ -1,11 +1,12 @@
 //! The title, the sentence on all samples, and how long the log is.
 
 use crate::clock::push_length;
+use crate::kind::IncidentKind;
 use crate::name::{IN_SLOW_TIME, IN_TITLE};
 use crate::naming::{is_slow, push};
 use crate::view::View;
 use hdr_draw::number::push_grouped;
-use hdr_verdict::{Episode, EpisodeKind, Incident};
+use hdr_verdict::{Episode, Incident};
 use std::alloc::AllocError;
 
 /// The most tags that are named in a line.
@@ -28,9 +29,9 @@ impl Sort {
     fn has(self, view: &View<'_>, incident: &Incident) -> bool {
         match self {
             Sort::Slow => is_slow(incident),
-            Sort::Stalled => view.is_stalled(incident),
+            Sort::Stalled => view.kind_of(incident).has_stall(),
             Sort::Missing => !is_slow(incident),
-            Sort::Empty => incident.heaviest.kind == EpisodeKind::Gap,
+            Sort::Empty => view.kind_of(incident) == IncidentKind::Empty,
         }
     }
 }
@@ -119,28 +120,6 @@ impl View<'_> {
             }
         }
         Ok(tags)
-    }
-
-    /// Whether a tag of an incident was stalled: it had no samples and then slow ones, of which one
-    /// took half of this time or more, if the unit of values is known.
-    pub(crate) fn is_stalled(&self, incident: &Incident) -> bool {
-        self.was_stalled(&incident.heaviest)
-            || incident
-                .joined
-                .iter()
-                .any(|episode| self.was_stalled(episode))
-    }
-
-    /// Whether a tag was stalled.
-    fn was_stalled(&self, episode: &Episode) -> bool {
-        let length = episode.end.saturating_sub(episode.start);
-        let greatest = self
-            .log
-            .tags
-            .get(episode.tag)
-            .and_then(|tag| self.units.milliseconds(tag.figures.max));
-        episode.kind == EpisodeKind::Stall
-            && greatest.map_or(true, |greatest| greatest >= u128::from(length / 2))
     }
 
     /// Appends how often samples were missing, and when most.

@@ -30,7 +30,7 @@ impl View<'_> {
             } else if count == 0 {
                 push_separated(&mut untested, ", ")?;
                 push_tail(&mut untested, tail)?;
-                push_below(&mut untested, "", tail)?;
+                push_fewest(&mut untested, tail)?;
             }
         }
         if !tested.is_empty() && tags > 1 {
@@ -55,7 +55,7 @@ impl View<'_> {
                 push_separated(text, "; ")?;
                 push_tail(text, tail)?;
                 write!(text, " of {count} of {tags} tags")?;
-                push_below(text, "the others have ", tail)?;
+                push_fewest(text, tail)?;
             }
         }
         Ok(())
@@ -216,11 +216,9 @@ fn push_separated(text: &mut String, separator: &str) -> Result<(), AllocError> 
     text.push_str(separator)
 }
 
-/// Appends in brackets how many samples are too few for a tail.
-fn push_below(text: &mut String, who: &str, tail: Tail) -> Result<(), AllocError> {
-    text.push_str(" (")?;
-    text.push_str(who)?;
-    text.push_str("below ")?;
+/// Appends in brackets how many samples the test of a tail takes, or more.
+fn push_fewest(text: &mut String, tail: Tail) -> Result<(), AllocError> {
+    text.push_str(" (it takes ")?;
     push_grouped(text, fewest_samples(tail))?;
-    text.push_str(" samples)")
+    text.push_str(" samples or more)")
 }
