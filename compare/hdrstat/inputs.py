@@ -69,7 +69,7 @@ def error_text(failure):
 
 def dropped_text(dropped):
     """The notes of first rows that were taken as names."""
-    return "".join(f"hdrstat: {name}: row 1 is taken as names: {names_text(row)}; --no-header reads it as numbers\n" for name, row in dropped)
+    return "".join(f"hdrstat: {name}: row 1 is taken as names: {names_text(row)}; --no-header reads it as a row\n" for name, row in dropped)
 
 
 def notes(tally):

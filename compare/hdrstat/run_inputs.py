@@ -91,20 +91,20 @@ def intervals_of(random):
     return every
 
 
-def samples_of_log(intervals):
-    """The samples of a log: batches are of its intervals with samples, and values are known by their classes of 3 digits."""
+def samples_of_log(intervals, digits):
+    """The samples of a log: batches are of its intervals with samples, and values are known by their classes of these digits."""
     some = [it for it in intervals if it]
     batches = [[it for interval in batch for it in interval] for batch in batches_of(some)]
-    samples = Samples(batches, 0, 3, FEW if len(batches) < 4 else "")
+    samples = Samples(batches, 0, digits, FEW if len(batches) < 4 else "")
     samples.least, samples.greatest = samples.classes[0][0], samples.classes[-1][1]
     return samples
 
 
-def log_of(intervals):
+def log_of(intervals, digits):
     lines = ["#[Histogram log format version 1.3]"]
     for at, numbers in enumerate(intervals):
-        counts = collections.Counter(bin_of(it, 3, 1) for it in numbers)
-        field = base64.b64encode(v2(counts, 3, 1, class_of(max([2, *numbers]), 3)[1])).decode()
+        counts = collections.Counter(bin_of(it, digits, 1) for it in numbers)
+        field = base64.b64encode(v2(counts, digits, 1, class_of(max([2, *numbers]), digits)[1])).decode()
         lines.append(f"{at}.000,1.000,1.000,{field}")
     return ("\n".join(lines) + "\n").encode()
 
@@ -276,8 +276,9 @@ def log_run_case(random):
     """A case of compare of logs."""
     first = intervals_of(random)
     others = [after_change_of_intervals(random, first) for _ in range(random.choice([1, 1, 2]))]
-    files = {name: log_of(it) for name, it in zip("abc", [first, *others])}
-    before, *after = [samples_of_log(it) for it in (first, *others)]
+    every = [(it, random.choice([3, 3, 3, 3, 2, 1])) for it in (first, *others)]
+    files = {name: log_of(*it) for name, it in zip("abc", every)}
+    before, *after = [samples_of_log(*it) for it in every]
     runs = [("after" if len(after) == 1 else name, it) for name, it in zip("bc", after)]
     percentiles = random_percentiles(random)
     limits = random_limits(random, percentiles)
@@ -286,7 +287,15 @@ def log_run_case(random):
     arguments += [word for it in limits for word in ("--fail", it[0])]
     tier = tier_of(len(runs) * len(percentiles))
     report = [(name, before, it, pair_lines(before, it, percentiles, tier)) for name, it in runs]
-    return Case(arguments, b"", files, wanted_of(report, tier, limits, form, False))
+    out, said, status = wanted_of(report, tier, limits, form, False)
+    return Case(arguments, b"", files, (out, "".join(fewer_text(*it) for it in every).encode() + said, status))
+
+
+def fewer_text(intervals, digits):
+    """What is said of a log of fewer than 3 digits."""
+    count = len(intervals)
+    text = f"hdrstat: {count} of {count} intervals coarser than 3 digits\nhdrstat: such a run is compared by classes of {digits} digits\n"
+    return text if digits < 3 else ""
 
 
 def after_change_of_intervals(random, intervals):

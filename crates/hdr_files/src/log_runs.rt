@@ -19,8 +19,27 @@ pub struct TagSamples {
     pub samples: Samples,
 }
 
+/// What was read of the logs of a run.
+#[derive(Drop)]
+struct LogRun {
+    tags: Vec<TagSamples>,
+    unit: Option<Unit>,
+    /// How many intervals have fewer significant digits, or a greater unit.
+    coarser: u64,
+}
+
+impl LogRun {
+    /// Returns the samples by tag.
+    fn into_sides(self, files: Files<'_, '_, '_>) -> Result<RunSides, StatError> {
+        Ok(RunSides {
+            sides: sides_of(files, self.tags)?,
+            unit: self.unit,
+        })
+    }
+}
+
 /// Returns the chosen intervals of the logs of a run, by tag. Their values are converted to one scale if
-/// they have several.
+/// they have several. If intervals have fewer significant digits, all of the run have as few.
 pub(crate) fn read_log_run(
     files: Files<'_, '_, '_>,
     sigfig: u8,
@@ -35,7 +54,35 @@ pub(crate) fn read_log_run(
     for note in &notes {
         print_error_line(files.rt, note.as_str());
     }
-    run
+    let run = run?;
+    if run.coarser > 0 && files.can_repeat_all() {
+        if let Some(run) = run_of_fewer_digits(files, sigfig, choice, is_by_tag)? {
+            return run.into_sides(files);
+        }
+    }
+    run.into_sides(files)
+}
+
+/// Returns a run by the most significant digits that all of its intervals have, if the logs differ in
+/// nothing else. A line on standard error says so.
+fn run_of_fewer_digits(
+    files: Files<'_, '_, '_>,
+    sigfig: u8,
+    choice: IntervalChoice<'_>,
+    is_by_tag: bool,
+) -> Result<Option<LogRun>, StatError> {
+    for digits in (0..sigfig).rev() {
+        let mut notes = Vec::new(files.alloc());
+        let run = log_run(files, digits, choice, is_by_tag, &mut notes)?;
+        if run.coarser == 0 {
+            let line = format!(in files.alloc();
+                "hdrstat: such a run is compared by classes of {digits} digits"
+            )?;
+            print_error_line(files.rt, line.as_str());
+            return Ok(Some(run));
+        }
+    }
+    Ok(None)
 }
 
 /// Returns the chosen intervals of the logs of a run, by tag. What is to be printed of the logs is appended
@@ -46,11 +93,12 @@ fn log_run(
     choice: IntervalChoice<'_>,
     is_by_tag: bool,
     notes: &mut Vec<String>,
-) -> Result<RunSides, StatError> {
+) -> Result<LogRun, StatError> {
     let alloc = files.alloc();
     let has_one_file = files.names.len() <= 1;
     let mut tags = Vec::new(alloc);
     let mut units = LogUnits::NONE;
+    let mut coarser = 0u64;
     for (index, name) in or_standard_input(files.names).iter().enumerate() {
         let mut sums = LogSums::new(alloc, choice, sigfig, is_by_tag);
         let mut batches = LogBatches::new(alloc, sigfig);
@@ -61,14 +109,16 @@ fn log_run(
         push_notes(files, notes, sums.notes())?;
         read?;
         push_coarser(alloc, notes, &sums, sigfig)?;
+        coarser = coarser.saturating_add(sums.coarser);
         if sums.chosen > 0 {
             units.add(sums.unit())?;
         }
         add_sums(alloc, &mut tags, sums, batches, has_one_file)?;
     }
-    Ok(RunSides {
-        sides: sides_of(files, tags)?,
+    Ok(LogRun {
+        tags,
         unit: units.unit,
+        coarser,
     })
 }
 

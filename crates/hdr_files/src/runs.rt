@@ -10,6 +10,7 @@ use crate::surveyed::NumberFiles;
 use hdr_input::groups::{GroupMaker, GroupParts, Groups};
 use hdr_input::{Recording, Unit};
 use hdr_runs::{BatchRecording, BatchTally, Order, Samples, Side};
+use hdr_summary::formats::NO_TAG;
 use std::alloc::Global;
 
 /// A run: its samples by tag, and the unit that logs have of their values.
@@ -114,29 +115,39 @@ pub(crate) fn sides_of(
 ) -> Result<Vec<Side>, StatError> {
     let alloc = files.alloc();
     let has_one_file = files.names.len() <= 1;
+    let has_tags = tags.iter().any(|part| part.tag.is_some());
     let mut sides = Vec::new(alloc);
     for TagSamples { tag, samples } in tags {
         let runs = samples.batches.len();
         if has_one_file || runs >= FEWEST_RUNS {
             sides.push(Side::new(alloc, tag, samples)?)?;
         } else {
-            print_few_runs(files, &tag, runs)?;
+            print_few_runs(files, name_of(&tag, has_tags), runs)?;
         }
     }
     Ok(sides)
 }
 
+/// Returns the name of a tag. Samples without one have a name beside tags.
+fn name_of(tag: &Option<String>, has_tags: bool) -> Option<&str> {
+    match tag {
+        Some(tag) => Some(tag.as_str()),
+        None if has_tags => Some(NO_TAG),
+        None => None,
+    }
+}
+
 /// Prints on standard error that a tag has samples in a few runs alone.
 fn print_few_runs(
     files: Files<'_, '_, '_>,
-    tag: &Option<String>,
+    tag: Option<&str>,
     runs: usize,
 ) -> Result<(), StatError> {
     let all = files.names.len();
     let mut line = String::new(files.alloc());
     line.push_str("hdrstat: ")?;
     if let Some(tag) = tag {
-        line.push_str(tag.as_str())?;
+        line.push_str(tag)?;
         line.push_str(": ")?;
     }
     write!(

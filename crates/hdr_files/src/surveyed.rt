@@ -177,7 +177,7 @@ impl<'r, 'l, 'n, 'a, 'b> NumberFiles<'r, 'l, 'n, 'a, 'b> {
             Ok(Some(names)) if !self.was_read => {
                 let file = self.files.name(index);
                 let line = format!(in self.files.alloc();
-                    "hdrstat: {file}: row 1 is taken as names: {names}; --no-header reads it as numbers"
+                    "hdrstat: {file}: row 1 is taken as names: {names}; --no-header reads it as a row"
                 )?;
                 print_error_line(self.files.rt, line.as_str());
                 Ok(())

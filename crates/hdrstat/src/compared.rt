@@ -92,29 +92,61 @@ fn run_of_log(
     Ok(run)
 }
 
-/// Returns the samples of the log of an index in batches, by tag.
+/// Returns the samples of the log of an index in batches, by tag. If intervals of it have fewer
+/// significant digits than others, all have as few.
 fn samples_of_log(
     files: Files<'_, '_, '_>,
     intervals: &LogIntervals,
     file: usize,
 ) -> Result<Vec<TagSamples>, StatError> {
     let alloc = files.alloc();
+    let (sums, batches) = match sums_of_fewer_digits(files, intervals, file)? {
+        Some(both) => both,
+        None => sums_of_log(files, intervals, file, SIGFIG)?,
+    };
+    let mut tags = Vec::new(alloc);
+    add_sums(alloc, &mut tags, sums, batches, true)?;
+    Ok(tags)
+}
+
+/// Returns the sums and the batches of a log by the most significant digits that all of its intervals
+/// have, or `None` if some differ in their unit.
+fn sums_of_fewer_digits(
+    files: Files<'_, '_, '_>,
+    intervals: &LogIntervals,
+    file: usize,
+) -> Result<Option<(LogSums<'static>, LogBatches)>, StatError> {
+    for sigfig in (0..=SIGFIG).rev() {
+        let (sums, batches) = sums_of_log(files, intervals, file, sigfig)?;
+        if sums.coarser == 0 {
+            return Ok(Some((sums, batches)));
+        }
+    }
+    Ok(None)
+}
+
+/// Returns the sums of the log of an index by tag, and its intervals in batches.
+fn sums_of_log(
+    files: Files<'_, '_, '_>,
+    intervals: &LogIntervals,
+    file: usize,
+    sigfig: u8,
+) -> Result<(LogSums<'static>, LogBatches), StatError> {
+    let alloc = files.alloc();
     let every = IntervalChoice {
         tags: TagChoice::Every,
         from: None,
         to: None,
     };
-    let mut sums = LogSums::new(alloc, every, SIGFIG, true);
-    let mut batches = LogBatches::new(alloc, SIGFIG);
+    let mut sums = LogSums::new(alloc, every, sigfig, true);
+    let mut batches = LogBatches::new(alloc, sigfig);
     for interval in &intervals.list {
         if interval.place.file == file {
             sums.add_stored_into(alloc, interval, &mut batches)
                 .map_err(|cause| files.log_error(cause))?;
         }
     }
-    let mut tags = Vec::new(alloc);
-    add_sums(alloc, &mut tags, sums, batches, true)?;
-    Ok(tags)
+    Ok((sums, batches))
 }
 
 /// Whether a run has a tag.
