@@ -150,12 +150,13 @@ def summary_of(read, form, percentiles, is_grouped, decimals):
 def levels_of(read, levels, is_grouped):
     """Standard output of check, and its status."""
     lines, verdicts = [], []
+    unnamed = ["(no tag)"] if any(it.name for it in read.groups.values()) else []
     for group in read.groups.values():
         for level in levels:
             verdict, rest = checked_line(level, group.exact, group, None)
             verdicts.append(verdict)
-            name = [group.name.decode()] if is_grouped and group.name else []
-            lines.append(" ".join([verdict, level.text, rest, *name]) + "\n")
+            name = [group.name.decode()] if group.name else unnamed
+            lines.append(" ".join([verdict, level.text, rest, *(name if is_grouped else [])]) + "\n")
     return "".join(lines).encode(), status_of(verdicts)
 
 
