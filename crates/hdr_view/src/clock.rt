@@ -33,7 +33,8 @@ const LENGTHS: [(u64, &str); 4] = [(86_400, "d"), (3_600, "h"), (60, "min"), (1,
 /// How a time is written.
 #[derive(Clone, Copy, PartialEq, Eq)]
 pub enum TimeStyle {
-    /// With seconds, and with the day if the log has several.
+    /// With seconds, and with the day if the log has several. If intervals are usually shorter than a
+    /// second, with fractions of one.
     Full,
     /// Without seconds if they are 0, and midnight as a day.
     Short,
@@ -48,6 +49,8 @@ pub struct Clock {
     has_clock: bool,
     has_days: bool,
     has_hours: bool,
+    /// Whether intervals are usually shorter than a second.
+    is_fine: bool,
 }
 
 /// Returns the date and time of milliseconds since the epoch, in UTC.
@@ -80,13 +83,14 @@ impl Clock {
             has_clock,
             has_days: has_clock && timeline.first / DAY != timeline.last / DAY,
             has_hours: timeline.last.saturating_sub(timeline.first) >= HOUR,
+            is_fine: timeline.step < timeline.merged.saturating_mul(1_000),
         }
     }
 
     /// Appends a time, in milliseconds since the epoch.
     pub fn push(self, text: &mut String, time: u64, style: TimeStyle) -> Result<(), AllocError> {
         if !self.has_clock {
-            return self.push_since_start(text, time);
+            return self.push_since_start(text, time, style);
         }
         let in_day = time % DAY / 1_000;
         if self.has_days {
@@ -104,7 +108,11 @@ impl Clock {
             let minutes = in_day / 60 % 60;
             return write!(text, "{hours:02}:{minutes:02}");
         }
-        push_time_of_day(text, time)
+        push_time_of_day(text, time)?;
+        if self.is_fine && style == TimeStyle::Full {
+            push_fraction(text, time)?;
+        }
+        Ok(())
     }
 
     /// Appends from when to when a log is, in UTC, with the day or both days.
@@ -130,13 +138,27 @@ impl Clock {
     pub fn push_day_of(self, text: &mut String, time: u64) -> Result<(), AllocError> {
         match civil(time) {
             Some(date) if self.has_clock => push_day(text, date),
-            _ => self.push_since_start(text, time),
+            _ => self.push_since_start(text, time, TimeStyle::Short),
         }
     }
 
     /// Appends a time since the start.
-    fn push_since_start(self, text: &mut String, time: u64) -> Result<(), AllocError> {
-        let since = time.saturating_sub(self.first).saturating_add(500) / 1_000;
+    fn push_since_start(
+        self,
+        text: &mut String,
+        time: u64,
+        style: TimeStyle,
+    ) -> Result<(), AllocError> {
+        let since = time.saturating_sub(self.first);
+        if self.is_fine && style == TimeStyle::Full {
+            self.push_seconds(text, since / 1_000)?;
+            return push_fraction(text, since);
+        }
+        self.push_seconds(text, since.saturating_add(500) / 1_000)
+    }
+
+    /// Appends a number of seconds.
+    fn push_seconds(self, text: &mut String, since: u64) -> Result<(), AllocError> {
         let seconds = since % 60;
         if self.has_hours {
             let hours = since / 3_600;
@@ -155,6 +177,22 @@ fn push_time_of_day(text: &mut String, time: u64) -> Result<(), AllocError> {
     let minutes = in_day / 60 % 60;
     let seconds = in_day % 60;
     write!(text, "{hours:02}:{minutes:02}:{seconds:02}")
+}
+
+/// Appends the fraction of a second that milliseconds have, if it is not 0.
+fn push_fraction(text: &mut String, milliseconds: u64) -> Result<(), AllocError> {
+    let part = milliseconds % 1_000;
+    if part == 0 {
+        return Ok(());
+    }
+    let (tenths, hundredths) = (part / 100, part / 10);
+    if part % 100 == 0 {
+        write!(text, ".{tenths}")
+    } else if part % 10 == 0 {
+        write!(text, ".{hundredths:02}")
+    } else {
+        write!(text, ".{part:03}")
+    }
 }
 
 /// Appends the day of a time with its year after a comma, such as `, 25 November 2026`. A year past
