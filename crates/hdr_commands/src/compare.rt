@@ -33,8 +33,9 @@ Examples:
   hdrstat compare --from log --by-tag before.log after.log
   hdrstat compare b1 b2 b3 b4 --with a1 a2 a3 a4
 
-Status: 0; with --fail 3 if a change is broken, and 4 if none is, but one has too few samples; 1 if
-the input is invalid, or input or output fails; 2 for a usage error.";
+Status: 0, also where chance leaves a change of --fail undecided; 3 if one is broken, and 4 if none
+is, but one has too few samples; 1 if the input is invalid, or input or output fails; 2 for a usage
+error.";
 
 /// Returns the command line of `hdrstat compare`.
 pub fn command<'a>(alloc: Global) -> Result<Command<'a>, Error> {
