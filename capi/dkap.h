@@ -161,7 +161,8 @@ struct dkap_interval {
 
 /*
  * What the headers of a log have: its first start time, if `has_start_time`, and the number of nanoseconds of its unit,
- * 0 if no comment such as "#[Values are in us]" has it.
+ * 0 if no comment such as "#[Values are in us]" has it. The comment of decimals, which hdrstat writes, is not read: after
+ * "#[Values have 2 decimals]" the value 1250 is 12.50 units.
  */
 struct dkap_log_header {
     struct dkap_time start_time;

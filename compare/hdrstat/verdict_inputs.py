@@ -62,9 +62,11 @@ def page_of(logs, unit=None, level=None, amount=None):
         width = width_of([samples for _, samples in tags[tag.name]])
         intervals.append([interval_of(it, samples, *width) for it, samples in tags[tag.name]])
     first, last = min(it.start for own in intervals for it in own), max(it.end for own in intervals for it in own)
+    lengths = sorted(it.end - it.start for own in intervals for it in own)
+    clock = Clock(min(first, last), last, (lengths[len(lengths) // 2] or 1000) < 1000)
     unit = None if unit is None else UNIT_NAMES.index(unit)
     is_instant = len({it.start for own in intervals for it in own}) == 1
-    return Page(figures, verdict_of(intervals, level), Clock(min(first, last), last), unit, level, amount, coarser, len(read), is_instant)
+    return Page(figures, verdict_of(intervals, level), clock, unit, level, amount, coarser, len(read), is_instant)
 
 
 class Begins:

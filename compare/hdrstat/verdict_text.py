@@ -119,16 +119,21 @@ def hour_text(time):
 
 @dataclasses.dataclass
 class Clock:
-    """Writes times of a log that begins and ends at these."""
+    """Writes times of a log that begins and ends at these, with fractions of a second if its intervals are usually shorter than one."""
 
     first: int
     last: int
+    is_fine: bool
 
     def has_clock(self):
         return self.first >= CLOCK_FROM
 
     def text(self, time):
-        seconds = time // 1000 if self.has_clock() else (time - self.first + 500) // 1000
+        since = time if self.has_clock() else time - self.first
+        part = f".{since % 1000:03d}".rstrip("0") if self.is_fine and since % 1000 else ""
+        return self.text_of(time, (since + (0 if self.has_clock() or self.is_fine else 500)) // 1000) + part
+
+    def text_of(self, time, seconds):
         hours, minutes, seconds = seconds // 3600, seconds // 60 % 60, seconds % 60
         if self.has_clock():
             _, month, day = civil(time)

@@ -69,7 +69,8 @@ class Histogram:
     def from_bytes(cls: type[_Self], data: Any, *, auto_resize: bool = False, max_bins: int = U64_MAX) -> _Self:
         """Decodes the bytes of a histogram of any HdrHistogram library: of versions 0 to 2, compressed or not.
 
-        A histogram of more than `max_bins` bins, of 8 bytes each, is an error.
+        It grows if `auto_resize` is true; without, a value or a histogram added beyond its bounds is an error. A histogram
+        of more than `max_bins` bins, of 8 bytes each, is an error.
         """
         histogram = cls.__new__(cls)
         histogram._decode(data, auto_resize, max_bins)

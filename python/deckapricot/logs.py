@@ -3,6 +3,7 @@
 from __future__ import annotations
 
 import os
+import re
 from collections.abc import Iterator
 from ctypes import byref
 from dataclasses import dataclass
@@ -17,6 +18,9 @@ SECOND = 1_000_000_000
 
 # The names of units, by their nanoseconds.
 UNITS = {1: "ns", 1_000: "us", 1_000_000: "ms", SECOND: "s"}
+
+# The comment with the decimals of values, 18 at most, as hdrstat writes and reads it.
+_DECIMALS = re.compile(rb"^#\[Values have (\d|1[0-8]) decimals\]\r?$", re.MULTILINE)
 
 
 @dataclass(frozen=True)
@@ -47,10 +51,11 @@ class HistogramLogReader:
     of 8 bytes each, is an error. After an error of one interval the next ones can be read.
 
     `start_time_ns` is the start time in the log's headers, or None. `unit` is "ns", "us", "ms" or "s", if a comment such
-    as "#[Values are in us]" has it, or None.
+    as "#[Values are in us]" has it, or None. `decimals` is how many of a value's digits are decimals, if a comment such
+    as "#[Values have 2 decimals]" has it, and otherwise 0: with 2, the value 1250 is 12.50 units.
     """
 
-    __slots__ = ("_data", "_found", "max_bins", "start_time_ns", "unit")
+    __slots__ = ("_data", "_found", "decimals", "max_bins", "start_time_ns", "unit")
 
     def __init__(self, source: Any, *, max_bins: int = U64_MAX) -> None:
         self.max_bins = word(max_bins, "max_bins")
@@ -61,6 +66,8 @@ class HistogramLogReader:
             lib.log_header_of(address, length, byref(header))
         self.start_time_ns = _nanos_of(header.start_time) if header.has_start_time else None
         self.unit = UNITS.get(header.unit_nanos)
+        found = _DECIMALS.search(self._data)
+        self.decimals = int(found[1]) if found else 0
 
     def __iter__(self) -> Iterator[Interval]:
         return self

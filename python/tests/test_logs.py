@@ -72,7 +72,9 @@ class Logs(unittest.TestCase):
         reader = HistogramLogReader(file.getvalue() + b" \n\n")
         self.assertEqual((reader.start_time_ns, reader.unit), (1_700_000_000_125_000_000, "us"))
         self.assertEqual([(i.base_ns, list(i.histogram)) for i in reader], [(5 * 10**9, list(counted(1, 2, 3)))])
-        self.assertEqual((read_log(b"").start_time_ns, read_log(b"").unit), (None, None))
+        self.assertEqual((read_log(b"").start_time_ns, read_log(b"").unit, read_log(b"").decimals), (None, None, 0))
+        self.assertEqual(read_log(b"#[Values are in s]\n#[Values have 4 decimals]\n").decimals, 4)
+        self.assertEqual(read_log(b"#[Values have 19 decimals]\n# [Values have 2 decimals]\n").decimals, 0)
         with self.assertRaises(ValueError):
             log.write_unit("minutes")
 
