@@ -160,13 +160,14 @@ struct dkap_interval {
 };
 
 /*
- * What the headers of a log have: its first start time, if `has_start_time`, and the number of nanoseconds of its unit,
- * 0 if no comment such as "#[Values are in us]" has it. The comment of decimals, which hdrstat writes, is not read: after
- * "#[Values have 2 decimals]" the value 1250 is 12.50 units.
+ * What the headers of a log have: its first start time, if `has_start_time`; how many of a value's digits are decimals;
+ * and the number of nanoseconds of its unit. These are 0 if no comment such as "#[Values have 2 decimals]", of 18 at
+ * most, or "#[Values are in us]" has them. With both, the value 1250 is 12.50 us.
  */
 struct dkap_log_header {
     struct dkap_time start_time;
     bool has_start_time;
+    uint8_t decimals;
     uint64_t unit_nanos;
 };
 
@@ -419,7 +420,7 @@ dkap_status dkap_log_line_compressed(const struct dkap_histogram *DKAP_RESTRICT 
                                      const uint8_t *DKAP_RESTRICT tag, size_t tag_length, uint8_t *DKAP_RESTRICT buf,
                                      size_t length, size_t *DKAP_RESTRICT needed) DKAP_MUST_USE;
 
-/* Stores the first start time of a log, and its first unit. */
+/* Stores the first start time of a log, and the first decimals and unit of its values. */
 void dkap_log_header_of(const uint8_t *DKAP_RESTRICT log, size_t length,
                         struct dkap_log_header *DKAP_RESTRICT header) DKAP_NONNULL;
 

@@ -300,6 +300,8 @@ static void other_forms(void)
 static void written_log(void)
 {
     static const uint8_t version[] = "[Histogram log format version 1.3]", unit[] = "[Values are in us]", bad[] = {0xff};
+    static const uint8_t windows[] = "#[Values are in ms]\r\n#[Values have 3 decimals]\r\n#[Values have 2 decimals]\n";
+    static const uint8_t invalid[] = "#[Values have 19 decimals]\n#[Values are in m]\n#[Values have 2 decimals]";
     struct dkap_histogram h = DKAP_CLOSED, k = DKAP_CLOSED;
     struct dkap_interval interval = {0};
     struct dkap_log_header header;
@@ -308,7 +310,11 @@ static void written_log(void)
 
     CHECK(dkap_init(&h, 1, 1000000, 3) == DKAP_OK && dkap_record_n(&h, 777, 5) == DKAP_OK);
     dkap_log_header_of(log, 0, &header);
-    CHECK(!header.has_start_time && header.unit_nanos == 0 && header.start_time.seconds == 0);
+    CHECK(!header.has_start_time && header.decimals == 0 && header.unit_nanos == 0 && header.start_time.seconds == 0);
+    dkap_log_header_of(windows, sizeof windows - 1, &header);
+    CHECK(!header.has_start_time && header.decimals == 3 && header.unit_nanos == 1000000);
+    dkap_log_header_of(invalid, sizeof invalid - 1, &header);
+    CHECK(header.decimals == 0 && header.unit_nanos == 0);
     CHECK(dkap_log_comment(version, sizeof version - 1, log, 10, &needed) == DKAP_E_BUFFER_TOO_SMALL && needed == 36);
     CHECK(dkap_log_comment(bad, 1, log, sizeof log, &needed) == DKAP_E_NOT_UTF8 && needed == 0);
     CHECK(dkap_log_comment(version, sizeof version - 1, log, sizeof log, &needed) == DKAP_OK && needed == 36);
@@ -326,7 +332,7 @@ static void written_log(void)
     at += needed;
     dkap_log_header_of(log, at, &header);
     CHECK(header.has_start_time && header.start_time.seconds == 1700000000 && header.start_time.nanos == 123000000);
-    CHECK(header.unit_nanos == 1000);
+    CHECK(header.unit_nanos == 1000 && header.decimals == 0);
     CHECK(dkap_log_next(&k, log, at, DKAP_NO_LIMIT, &interval) == DKAP_OK && dkap_equal(&h, &k) && interval.next == at);
     CHECK(interval.has_base && interval.base.seconds == 5 && interval.tag_length == 1);
     CHECK(dkap_encode_compressed(&h, log, sizeof log, &needed) == DKAP_OK && log[3] == 0x14);

@@ -85,7 +85,7 @@ class IntervalCursor(ctypes.Structure):
 class LogHeader(ctypes.Structure):
     """struct dkap_log_header."""
 
-    _fields_ = [("start_time", Time), ("has_start_time", c_bool), ("unit_nanos", c_uint64)]
+    _fields_ = [("start_time", Time), ("has_start_time", c_bool), ("decimals", c_uint8), ("unit_nanos", c_uint64)]
 
 
 HANDLE = POINTER(Handle)

@@ -3,7 +3,6 @@
 from __future__ import annotations
 
 import os
-import re
 from collections.abc import Iterator
 from ctypes import byref
 from dataclasses import dataclass
@@ -18,9 +17,6 @@ SECOND = 1_000_000_000
 
 # The names of units, by their nanoseconds.
 UNITS = {1: "ns", 1_000: "us", 1_000_000: "ms", SECOND: "s"}
-
-# The comment with the decimals of values, 18 at most, as hdrstat writes and reads it.
-_DECIMALS = re.compile(rb"^#\[Values have (\d|1[0-8]) decimals\]\r?$", re.MULTILINE)
 
 
 @dataclass(frozen=True)
@@ -66,8 +62,7 @@ class HistogramLogReader:
             lib.log_header_of(address, length, byref(header))
         self.start_time_ns = _nanos_of(header.start_time) if header.has_start_time else None
         self.unit = UNITS.get(header.unit_nanos)
-        found = _DECIMALS.search(self._data)
-        self.decimals = int(found[1]) if found else 0
+        self.decimals = int(header.decimals)
 
     def __iter__(self) -> Iterator[Interval]:
         return self

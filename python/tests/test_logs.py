@@ -75,6 +75,8 @@ class Logs(unittest.TestCase):
         self.assertEqual((read_log(b"").start_time_ns, read_log(b"").unit, read_log(b"").decimals), (None, None, 0))
         self.assertEqual(read_log(b"#[Values are in s]\n#[Values have 4 decimals]\n").decimals, 4)
         self.assertEqual(read_log(b"#[Values have 19 decimals]\n# [Values have 2 decimals]\n").decimals, 0)
+        windows = read_log(b"#[Values are in ms]\r\n#[Values have 18 decimals]\r\n")
+        self.assertEqual((windows.unit, windows.decimals), ("ms", 18))
         with self.assertRaises(ValueError):
             log.write_unit("minutes")
 
