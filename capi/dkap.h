@@ -161,8 +161,8 @@ struct dkap_interval {
 
 /*
  * What the headers of a log have: its first start time, if `has_start_time`; how many of a value's digits are decimals;
- * and the number of nanoseconds of its unit. These are 0 if no comment such as "#[Values have 2 decimals]", of 18 at
- * most, or "#[Values are in us]" has them. With both, the value 1250 is 12.50 us.
+ * and the number of nanoseconds of its unit. These are 0 if no comment such as "#[Values have 2 decimals]" (18
+ * at most) or "#[Values are in us]" has them. With both, the value 1250 is 12.50 us.
  */
 struct dkap_log_header {
     struct dkap_time start_time;
@@ -390,7 +390,7 @@ dkap_status dkap_decode(struct dkap_histogram *DKAP_RESTRICT h, const uint8_t *D
  */
 
 /*
- * Writes a comment, each of its lines as one after `#`. The libraries for Java and C ask for a first line with
+ * Writes a comment, each of its lines as one after `#`. HdrHistogram_c asks for a first line with
  * "[Histogram log format version 1.3]". A unit such as microseconds is "[Values are in us]", and ns, ms and s others.
  * Errors: 2, 11, 29.
  */
@@ -420,7 +420,7 @@ dkap_status dkap_log_line_compressed(const struct dkap_histogram *DKAP_RESTRICT 
                                      const uint8_t *DKAP_RESTRICT tag, size_t tag_length, uint8_t *DKAP_RESTRICT buf,
                                      size_t length, size_t *DKAP_RESTRICT needed) DKAP_MUST_USE;
 
-/* Stores the first start time of a log, and the first decimals and unit of its values. */
+/* Stores the first start time, decimals and unit that the complete lines of a log have. */
 void dkap_log_header_of(const uint8_t *DKAP_RESTRICT log, size_t length,
                         struct dkap_log_header *DKAP_RESTRICT header) DKAP_NONNULL;
 

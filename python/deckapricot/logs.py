@@ -112,7 +112,8 @@ def _nanos_of(time: Time) -> int:
 class LogWriter:
     """Writes intervals to a path or a binary file. Times are in seconds; a log has milliseconds.
 
-    If `compressed`, histograms are written in the form that the other libraries read, after the line that these ask for.
+    If `compressed`, histograms are written in the form that the other libraries read, after the line of the version that
+    HdrHistogram_c asks for.
     """
 
     __slots__ = ("_compressed", "_file", "_owns")
