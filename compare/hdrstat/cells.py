@@ -38,9 +38,11 @@ class Cell:
 
 
 def groups_of(intervals):
-    """Intervals in groups, each with those that begin before its first one ends, or one that is twice as long as the group was or longer."""
+    """Intervals in groups, each with those that begin before its first one ends, or one that is twice as long as the group was or longer.
+    Those without samples are left out; of a tag that has no others the first one stays."""
     groups, end = [], 0
-    for it in sorted(intervals, key=lambda it: (it.start, it.end)):
+    own = sorted(intervals, key=lambda it: (it.start, it.end))
+    for it in [it for it in own if it.counts] or own[:1]:
         if groups and it.start < end:
             groups[-1].append(it)
             if it.end - it.start >= 2 * (end - groups[-1][0].start):

@@ -70,7 +70,7 @@ cells_of_groups counts stride end (group ∷ all) = cells_from counts stride end
 -- the cells of intervals, which are in ascending order of their starts and have these numbers of samples, up to the end of a log
 unfoldable pub cells_of_intervals : List StoredInterval → List ℕ → (end : ℕ) → List Cell
 cells_of_intervals intervals counts end =
-    let groups = groups_from None 0 intervals in
+    let groups = groups_from counts None 0 intervals in
     cells_of_groups counts (stride_of groups) end groups
 
 -- the intervals of each cell are of n

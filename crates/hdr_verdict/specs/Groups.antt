@@ -1,5 +1,5 @@
 -- Groups of a tag's intervals, which overlap.
-use Rattle.std.specs.Prelude.{ℕ, Bool, ◌+◌, ◌-◌, ◌*◌, ◌/◌, ◌≤◌, nat_le, nat_lt, if◌then◌else◌, max, List, [], ◌∷◌, length, Option, Some, None, slice_index}
+use Rattle.std.specs.Prelude.{ℕ, Bool, ◌+◌, ◌-◌, ◌*◌, ◌/◌, ◌≤◌, ◌==◌, nat_le, nat_lt, if◌then◌else◌, max, List, [], ◌∷◌, length, Option, Some, None, slice_index}
 use Rattle.std.specs.List.{All}
 use Rattle.hdr_model.specs.Quantiles.{sorted}
 use Rattle.hdr_logs.specs.Stored.{end_of}
@@ -22,15 +22,29 @@ with_interval group interval i = record group {
   next = i + 1;
 }
 
--- the last group, if there is one, and the groups of the intervals from index i on: an interval is of the last group if it begins
--- before the end of that, which is that of its first interval, or of a long one
-abbrev pub groups_from : Option Group → ℕ → List StoredInterval → List Group
-groups_from None i [] = []
-groups_from (Some group) i [] = group ∷ []
-groups_from None i (interval ∷ all) = groups_from (Some (group_of interval i)) (i + 1) all
-groups_from (Some group) i (interval ∷ all) =
-    if nat_lt interval.start group.end then groups_from (Some (with_interval group interval i)) (i + 1) all
-    else group ∷ groups_from (Some (group_of interval i)) (i + 1) all
+-- a group with an interval without samples behind its last one, and one of such intervals with the first that has some
+abbrev pub with_empty : Group → ℕ → Group
+with_empty group i = record group { next = i + 1 }
+
+abbrev pub from_interval : Group → StoredInterval → ℕ → Group
+from_interval group interval i = record (group_of interval i) { first = group.first }
+
+-- the interval of an index has no samples
+abbrev pub is_empty_at : List ℕ → ℕ → Bool
+is_empty_at counts i = slice_index counts i == 0
+
+-- the last group, if there is one, and the groups of the intervals from index i on, which have these numbers of samples: an interval is
+-- of the last group if it begins before the end of that, which is that of its first interval, or of a long one. An interval without
+-- samples is as if it were not there: it is of the last group, and changes nothing of its time
+abbrev pub groups_from : List ℕ → Option Group → ℕ → List StoredInterval → List Group
+groups_from counts None i [] = []
+groups_from counts (Some group) i [] = group ∷ []
+groups_from counts None i (interval ∷ all) = groups_from counts (Some (group_of interval i)) (i + 1) all
+groups_from counts (Some group) i (interval ∷ all) =
+    if is_empty_at counts i then groups_from counts (Some (with_empty group i)) (i + 1) all
+    else (if is_empty_at counts group.first then groups_from counts (Some (from_interval group interval i)) (i + 1) all
+    else (if nat_lt interval.start group.end then groups_from counts (Some (with_interval group interval i)) (i + 1) all
+    else group ∷ groups_from counts (Some (group_of interval i)) (i + 1) all))
 
 -- the strides from a start to those of groups, one after the other
 abbrev pub strides_from : ℕ → List Group → List ℕ

@@ -5,12 +5,13 @@ ghost use Rattle.std.specs.List.{slice_get};
 ghost use Rattle.hdr_logs.specs.declared.stored.StoredInterval.{StoredInterval};
 ghost use Rattle.hdr_verdict.specs.Cells.{cell_of, cells_of_group, cells_of_groups, cells_of_intervals, cells_up_to, has_hole, length_of, span_before_hole, span_of};
 ghost use Rattle.hdr_verdict.specs.Cells.{span_up_to, AreCounted, AreWithin};
-ghost use Rattle.hdr_verdict.specs.Groups.{group_of, groups_from, is_long_for, ninth_decile, stride_of, strides_from, with_interval, AreGroupsOf, IsGroupOf};
+ghost use Rattle.hdr_verdict.specs.Groups.{from_interval, group_of, groups_from, is_empty_at, is_long_for, ninth_decile, stride_of, strides_from, with_empty, with_interval, AreGroupsOf, IsGroupOf};
 
 use hdr_logs::StoredInterval;
 use std::alloc::{AllocError, Global};
 
-/// A cell of a tag's time: some of its intervals, which overlap, or a time without any.
+/// A cell of a tag's time: some of its intervals, which overlap, or a time without any. An interval
+/// without samples is as if it were not there.
 #[derive(Clone, Copy)]
 pub struct Cell {
     /// When it begins and when it ends, in milliseconds as `StoredInterval::start`.
@@ -75,6 +76,28 @@ impl Group {
             last: self.last.max(interval.end()),
             next: index + 1,
             ..self
+        }
+    }
+
+    /// Returns the group with an interval without samples behind its last one.
+    fn with_empty(self, index: usize) -> Group
+        requires { index + 1 < 2 ^ 64 }
+        ensures { result ≡ with_empty self index }
+    {
+        Group {
+            next: index + 1,
+            ..self
+        }
+    }
+
+    /// Returns a group of intervals without samples with the first interval that has some.
+    fn from_interval(self, interval: &StoredInterval, index: usize) -> Group
+        requires { index + 1 < 2 ^ 64 }
+        ensures { result ≡ from_interval self interval.now index }
+    {
+        Group {
+            first: self.first,
+            ..Group::of(interval, index)
         }
     }
 
@@ -200,20 +223,33 @@ fn next_of(groups: &[Group], index: usize) -> Option<Group>
     groups.get(index + 1).copied()
 }
 
+/// Whether the interval of an index has no samples.
+fn is_empty_at(counts: &[u64], index: usize) -> bool
+    ensures { result ≡ is_empty_at counts.now index }
+{
+    match counts.get(index) {
+        Some(count) => *count == 0,
+        None => true,
+    }
+}
+
 /// Returns the last group after the interval of an index, and appends the one before it if that is
-/// over.
+/// over. The intervals have these numbers of samples.
 fn after_interval(
     groups: &mut Vec<Group>,
     last: Option<Group>,
     interval: &StoredInterval,
     index: usize,
+    counts: &[u64],
 ) -> Result<Group, AllocError>
     requires { index + 1 < 2 ^ 64 }
     ensures { IfOk result (λ group. (all : List StoredInterval)
-        → groups.new.items ++ groups_from (Some group) (index + 1) all
-        ≡ groups.old.items ++ groups_from last index (interval.now ∷ all)) }
+        → groups.new.items ++ groups_from counts.now (Some group) (index + 1) all
+        ≡ groups.old.items ++ groups_from counts.now last index (interval.now ∷ all)) }
 {
     match last {
+        Some(group) if is_empty_at(counts, index) => Ok(group.with_empty(index)),
+        Some(group) if is_empty_at(counts, group.first) => Ok(group.from_interval(interval, index)),
         Some(group) if interval.start < group.end => Ok(group.with(interval, index)),
         Some(group) => {
             groups.push(group)?;
@@ -223,14 +259,20 @@ fn after_interval(
     }
 }
 
-/// Returns the groups of intervals in ascending order of their starts.
-fn groups_of(alloc: Global, intervals: &[&StoredInterval]) -> Result<Vec<Group>, AllocError>
-    ensures { IfOk result (λ groups. groups.items ≡ groups_from None 0 (map (λ i. i.now) intervals.now)) }
+/// Returns the groups of intervals in ascending order of their starts. The intervals have these
+/// numbers of samples.
+fn groups_of(
+    alloc: Global,
+    intervals: &[&StoredInterval],
+    counts: &[u64],
+) -> Result<Vec<Group>, AllocError>
+    ensures { IfOk result (λ groups. groups.items
+        ≡ groups_from counts.now None 0 (map (λ i. i.now) intervals.now)) }
 {
     let mut groups = Vec::new(alloc);
     let mut last = None;
     for (index, interval) in intervals.iter().enumerate() {
-        last = Some(after_interval(&mut groups, last, interval, index)?);
+        last = Some(after_interval(&mut groups, last, interval, index, counts)?);
     }
     if let Some(group) = last {
         groups.push(group)?;
@@ -290,7 +332,7 @@ pub(crate) fn cells_of(
     ensures within { IfOk result (λ cells. AreWithin (length intervals.now) cells.items) }
     ensures counted { IfOk result (λ cells. AreCounted counts.now cells.items) }
 {
-    let groups = groups_of(alloc, intervals)?;
+    let groups = groups_of(alloc, intervals, counts)?;
     let stride = stride_of(alloc, &groups)?;
     let cells = cells_of_groups(alloc, &groups, counts, stride, end)?;
     Ok(cells)

@@ -15,4 +15,4 @@ loop-index-preserved c =
     let inside : i < length all = omega (arith, length-map refs now, c.loop-index-test.true) in
     let item : get_or all i r.now ≡ r.now = get_or-map now refs i r r.now c.loop-index-test.true ∙ ap now (sym c.index-intervals-index.is) in
     let front = drop-one all i r.now inside ∙ ap (λ x. x ∷ drop (i + 1) all) item in
-    c.in_ok-after_interval.ensures (drop (i + 1) all) ∙ ap (λ l. c.loop-index.groups.items ++ groups_from c.loop-index.last i l) (sym front) ∙ c.loop-index.invariant
+    c.in_ok-after_interval.ensures (drop (i + 1) all) ∙ ap (λ l. c.loop-index.groups.items ++ groups_from c.args.counts.now c.loop-index.last i l) (sym front) ∙ c.loop-index.invariant
