@@ -1,3 +1,5 @@
 mod AddedClasses
 mod Adding
 mod ClassRanks
+mod Parts
+mod TagParts

@@ -1,6 +1,6 @@
 //! The sums of intervals: of points of time, of tags, and of all.
 
-ghost use Rattle.std.specs.Prelude.{◌≡◌, ◌↔◌, ◌-◌, ◌^◌, List, map, Some, IfOk, IsTrue, MatchOption, OnOk, slice_set};
+ghost use Rattle.std.specs.Prelude.{◌≡◌, ◌↔◌, ◌-◌, ◌^◌, ◌++◌, ◌∷◌, [], List, map, Some, IfOk, IsTrue, MatchOption, OnOk, slice_set};
 ghost use Rattle.std.specs.List.{slice_get};
 ghost use Rattle.std.specs.List.Sorted.{IsPermutation};
 ghost use Rattle.hdr_model.specs.Merging.{after_add};
@@ -11,6 +11,7 @@ ghost use Rattle.hdr_logs.specs.Stored.{view_of_stored};
 ghost use Rattle.hdr_figures.specs.Classes.{AreClassesOf, IsMarkedBySamples};
 ghost use Rattle.hdr_figures.specs.Figures.{AreFiguresOf, ArePeaksOf, peaks_with, value_at, with_samples};
 ghost use Rattle.hdr_figures.specs.Intervals.{AreHistogramsOf, IsWorse, span_of, sum_of};
+ghost use Rattle.hdr_figures.specs.TagSums.{AreSumsOf, HasOwnClasses, IsTagSum};
 
 use crate::classes::Classes;
 use crate::figures::{Cell, LogFigures, Peaks, PointFigures, TagFigures, TagSamples, Total, Worst};
@@ -75,17 +76,18 @@ pub fn figures_of<'a>(
     levels: &[PageLevel],
     drawn: &[&str],
 ) -> Result<LogFigures<'a>, LogError>
-    ensures { IfOk result (λ log. AreFiguresOf log.sum.histogram log.all) }
+    ensures all { IfOk result (λ log. AreFiguresOf log.sum.histogram log.all) }
+    ensures sums { IfOk result (AreSumsOf intervals.now levels.now) }
 {
     let keys = keys_of(alloc, intervals, timeline)?;
     let mut sums = Sums::new(alloc, timeline.points)?;
     let mut sum = Sum::new(alloc)?;
     let mut tags = Vec::new(alloc);
     let mut kept = Vec::new(alloc);
-    for keys in keys.chunk_by(|a, b| a.interval.name() == b.interval.name()) {
-        let name = keys.first().map_or("", |key| key.interval.name());
+    for part in keys.chunk_by(|a, b| a.interval.name() == b.interval.name()) {
+        let name = part.first().map_or("", |key| key.interval.name());
         let is_drawn = position_in(drawn, name) < drawn.len();
-        let (length, samples) = sums.tag_of(alloc, keys, is_drawn)?;
+        let (length, samples) = sums.tag_of(alloc, part, is_drawn)?;
         sum.add(&samples.sum)?;
         push_tag(&mut tags, tag_figures(alloc, &samples, length, levels)?)?;
         push_drawn(&mut kept, samples, is_drawn)?;
@@ -124,7 +126,9 @@ fn tag_figures<'a>(
 }
 
 /// Appends the figures of a tag.
-fn push_tag<'a>(tags: &mut Vec<TagFigures<'a>>, tag: TagFigures<'a>) -> Result<(), AllocError> {
+fn push_tag<'a>(tags: &mut Vec<TagFigures<'a>>, tag: TagFigures<'a>) -> Result<(), AllocError>
+    ensures { OnOk result (tags.new.items ≡ tags.old.items ++ tag.entry ∷ []) }
+{
     match tags.push(tag) {
         Ok(()) => Ok(()),
         Err(_) => Err(AllocError),
@@ -153,7 +157,9 @@ fn position_in(names: &[&str], name: &str) -> usize {
 
 impl<'a> Sums<'a> {
     /// Returns what is known of no intervals at a number of points of time.
-    fn new(alloc: Global, points: usize) -> Result<Sums<'a>, LogError> {
+    fn new(alloc: Global, points: usize) -> Result<Sums<'a>, LogError>
+        ensures { IfOk result (λ sums. HasOwnClasses sums.point.histogram) }
+    {
         let none = Total {
             count: 0,
             max: None,
@@ -177,6 +183,9 @@ impl<'a> Sums<'a> {
         keys: &[Key<'a>],
         is_drawn: bool,
     ) -> Result<(u64, TagSamples<'a>), LogError>
+        requires { HasOwnClasses self.old.point.histogram }
+        ensures classes { OnOk result (HasOwnClasses self.new.point.histogram) }
+        ensures sum { IfOk result (λ r. IsTagSum (map (λ k. k.interval.now) keys.now) r.1.sum.histogram) }
         ensures figures { IfOk result (λ r. AreFiguresOf r.1.sum.histogram r.1.figures) }
         ensures length { IfOk result (λ r. r.0 ≡ span_of (map (λ k. k.interval.now) keys.now)) }
     {
@@ -184,8 +193,8 @@ impl<'a> Sums<'a> {
         let mut sum = Sum::new(alloc)?;
         let mut points = Vec::new(alloc);
         let mut cells = Vec::new(alloc);
-        for keys in keys.chunk_by(|a, b| a.point == b.point) {
-            let point = self.add_point(keys)?;
+        for part in keys.chunk_by(|a, b| a.point == b.point) {
+            let point = self.add_point(part)?;
             sum.add(&self.point)?;
             if let Some(point) = point {
                 self.add_total(&point);
@@ -210,7 +219,9 @@ impl<'a> Sums<'a> {
     }
 
     /// Returns when the intervals with samples of a tag begin, in order, and removes them.
-    fn take_starts(&mut self, alloc: Global) -> Result<Vec<u64>, AllocError> {
+    fn take_starts(&mut self, alloc: Global) -> Result<Vec<u64>, AllocError>
+        ensures { self.new.point ≡ self.old.point }
+    {
         self.starts.sort()?;
         Ok(mem::replace(&mut self.starts, Vec::new(alloc)))
     }
@@ -299,6 +310,7 @@ impl<'a> Sums<'a> {
             (λ t. self.new.totals.items
             ≡ slice_set self.old.totals.items point.now.point
             (with_samples t point.now.count point.now.peaks.max)) }
+        ensures point { self.new.point ≡ self.old.point }
     {
         if let Some(total) = self.totals.get_mut(point.point) {
             total.count = total.count.saturating_add(point.count);

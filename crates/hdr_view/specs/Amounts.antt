@@ -9,6 +9,13 @@ unit_name (suc zero) = 194 ∷ 181 ∷ codes "s"
 unit_name (suc (suc zero)) = codes "ms"
 unit_name (suc (suc (suc _))) = codes "s"
 
+-- the length of a unit in nanoseconds
+abbrev pub nanos_of : ℕ → ℕ
+nanos_of zero = 1
+nanos_of (suc zero) = 1_000
+nanos_of (suc (suc zero)) = 1_000_000
+nanos_of (suc (suc (suc _))) = 1_000_000_000
+
 -- the name of a unit after a space at which no line is broken, or nothing if the unit is unknown
 abbrev pub unit_text : Option ℕ → List ℕ
 unit_text None = []

@@ -2,3 +2,4 @@ pub mod Amounts
 pub mod Naming
 pub mod Order
 pub mod Views
+pub mod Pages

@@ -1,10 +1,10 @@
 //! Values with their units.
 
-ghost use Rattle.std.specs.Prelude.{ℕ, List, Option, None, Some, ◌≡◌, ◌⊎◌, ◌<◌, ◌≤◌, ◌+◌, ◌*◌, ◌^◌, ◌++◌, IfSome, IfNone, IsSome, OnOk, string_bytes};
+ghost use Rattle.std.specs.Prelude.{ℕ, List, Option, None, Some, ◌≡◌, ◌⊎◌, ◌<◌, ◌≤◌, ◌+◌, ◌*◌, ◌/◌, ◌^◌, ◌++◌, IfSome, IfNone, IsSome, MatchOption, OnOk, string_bytes};
 ghost use Rattle.std.specs.Option.{ForNone};
 ghost use Rattle.hdr_input.specs.Units.{exponent};
 ghost use Rattle.hdr_draw.specs.Numbers.{IsDecimalOf};
-ghost use Rattle.hdr_view.specs.Amounts.{IsExact, IsInUnit, IsLabel, IsScale, IsValueText, box_text, longer_by, unit_name, unit_text};
+ghost use Rattle.hdr_view.specs.Amounts.{IsExact, IsInUnit, IsLabel, IsScale, IsValueText, box_text, longer_by, nanos_of, unit_name, unit_text};
 
 use hdr_draw::labels::split_powers;
 use hdr_draw::number::{Decimal, push_exponent, push_grouped, scientific};
@@ -63,6 +63,18 @@ fn name_of(unit: usize) -> &'static str
     }
 }
 
+/// Returns the length of a unit in nanoseconds.
+fn nanos_of(unit: usize) -> u128
+    ensures { result ≡ nanos_of unit }
+{
+    match unit {
+        0 => 1,
+        1 => 1_000,
+        2 => 1_000_000,
+        _ => 1_000_000_000,
+    }
+}
+
 impl Units {
     /// Returns how values are shown that are in units of the last of these decimals, 18 at most, of
     /// `unit`: in the longest unit of which they are integers, or in nanoseconds. Without `unit` it
@@ -104,15 +116,12 @@ impl Units {
     }
 
     /// Returns a value in milliseconds, rounded down, if the unit is known.
-    pub(crate) fn milliseconds(self, value: u64) -> Option<u128> {
-        let factor = match self.unit? {
-            0 => 1u128,
-            1 => 1_000,
-            2 => 1_000_000,
-            _ => 1_000_000_000,
-        };
-        let parts = self.in_parts(value).saturating_mul(factor);
-        parts.checked_div(self.parts().saturating_mul(1_000_000))
+    pub(crate) fn milliseconds(self, value: u64) -> Option<u128>
+        ensures { MatchOption self.unit (result ≡ None)
+            (λ unit. result ≡ Some (value * self.times * nanos_of unit / (10 ^ self.decimals * 1_000_000))) }
+    {
+        let nanos = self.in_parts(value) * nanos_of(self.unit?);
+        Some(nanos / (self.parts() * 1_000_000))
     }
 
     /// Returns a value in the longest unit of which it is one or more, after rounding.

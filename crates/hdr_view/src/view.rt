@@ -52,6 +52,8 @@ pub struct View<'a> {
 }
 
 impl<'a> View<'a> {
+    ghost use Rattle.hdr_view.specs.Pages.{IsViewOf};
+
     /// Returns what a page of intervals shows.
     ///
     /// # Errors
@@ -62,7 +64,8 @@ impl<'a> View<'a> {
         options: PageOptions<'a>,
         form: PageForm,
     ) -> Result<View<'a>, LogError>
-        ensures { IfOk result (λ view. HaveSameDecimals intervals.now → HaveSameUnit intervals.now
+        ensures view { IfOk result (IsViewOf intervals.now.list.items options.entry form) }
+        ensures units { IfOk result (λ view. HaveSameDecimals intervals.now → HaveSameUnit intervals.now
             → All (IsShownIn view.units) intervals.now.list.items) }
     {
         let unit = intervals.unit().or(options.unit);

@@ -4,8 +4,8 @@ use Rattle.hdr_logs.specs.Stored.{decimals_of}
 use Rattle.hdr_view.proofs.ShownUnits.{ShownAs, shown}
 use Rattle.hdr_view.proofs.view.View.new.Goals as goal
 
-pub returns : goal.returns
-returns c = λ same_decimals same_unit.
+pub returns-clause-units : goal.returns-clause-units
+returns-clause-units c = λ same_decimals same_unit.
     let items = c.args.intervals.now.list.items in
     let d = c.unwrap_or-decimals.result in
     let scale = subst (λ o. d ≤ 18 → IfSome o (ShownAs c.new-3.result d)) c.or-unit.ensures c.new-3.ensures.known in
