@@ -237,6 +237,11 @@ class Page:
         """The letter of the first of incidents, by index, or nothing if it has none."""
         return next((f", {what} {chr(65 + at)}" for at, it in enumerate(self.named) if incidents[:1] and incidents[0] in it.all), "")
 
+    def letters(self, what, incidents):
+        """The letters of incidents, by index, or nothing if none has one."""
+        letters = [chr(65 + at) for at, it in enumerate(self.named) if any(one in it.all for one in incidents)]
+        return f", {what} {', '.join(letters)}" if letters else ""
+
     def indices(self, is_of):
         return [at for at, it in enumerate(self.verdict.incidents) if is_of(it)]
 
@@ -248,7 +253,7 @@ class Page:
             return "no slow time found"
         text = "slow" + times_text(len(slow))
         if len(slow) > 1:
-            text += self.where("stalled in", self.indices(self.is_stalled)) or self.where("heaviest", slow)
+            text += self.letters("stalled in", self.indices(self.is_stalled)) or self.where("heaviest", slow)
         lasting = [it.tag for at in slow for it in self.verdict.incidents[at].episodes if it.lasts]
         return text + (f", still at the end: {self.tag_names(list(dict.fromkeys(lasting)))}" if lasting else "")
 
@@ -256,7 +261,7 @@ class Page:
         missing, gaps = self.indices(lambda it: not it.heaviest.is_slow()), self.indices(lambda it: self.kind(it) == "No samples")
         if not missing:
             return ""
-        where = (self.where("no samples in", gaps) or self.where("heaviest", missing)) if len(missing) > 1 else ""
+        where = (self.letters("no samples in", gaps) or self.where("heaviest", missing)) if len(missing) > 1 else ""
         return "; samples missing" + times_text(len(missing)) + where
 
     def greatest_text(self):
@@ -286,10 +291,11 @@ class Page:
         return text + "".join(map(self.over_text, others[:MOST_OVER])) + (f"; and {more} more" if more > 0 else "") + "."
 
     def sentence(self):
-        samples, length = sum(it.samples for it in self.tags), length_text(self.clock.last - self.clock.first)
+        samples, length = sum(it.samples for it in self.tags), self.clock.last - self.clock.first
+        time = f" in {length_text(length)}" if length else ""
         if not samples:
-            return f"No samples in {length}."
-        head = f"{counted(samples, 'sample')} in {length}, {counted(len(self.tags), 'tag')}: "
+            return f"No samples{time}."
+        head = f"{counted(samples, 'sample')}{time}, {counted(len(self.tags), 'tag')}: "
         return head + self.slow_text() + self.missing_text() + ". " + self.greatest_text() + self.level_text()
 
     def coarser_text(self):

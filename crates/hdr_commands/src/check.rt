@@ -60,7 +60,7 @@ pub fn command<'a>(alloc: Global) -> Result<Command<'a>, Error> {
         .arg(levels)?
         .arg(input)?
         .arg(flag(alloc, "allow-empty", help).help_heading(INPUT))?;
-    let help = "Decide percentiles only if the samples suffice, by how they hang together";
+    let help = "Decide percentiles only if the samples suffice, also correlated ones";
     let command = with_reading(alloc, command)?
         .arg(flag(alloc, "ci", help).help_heading(FIGURES))?
         .arg(quiet(alloc).help_heading(OUTPUT))?

@@ -24,8 +24,8 @@ use std::process::ExitCode;
 
 const AFTER: &str = "\
 Each percentile has the ends of its confidence interval: the ranks that chance could reach, if the
-samples hang together as they do over the run. A change is slower or faster if it is beyond chance,
-and the same if chance could make it. `man hdrstat` has what an interval is, and what it cannot see.
+samples are correlated as over the run. A change is slower or faster if it is beyond chance, and the
+same if chance could make it. `man hdrstat` has what an interval is, and what it cannot see.
 
 Examples:
   hdrstat compare before.txt after.txt

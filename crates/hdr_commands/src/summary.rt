@@ -39,11 +39,12 @@ pub fn command<'a>(alloc: Global) -> Result<Command<'a>, Error> {
 
 /// Adds the options of the output.
 fn with_output<'a>(alloc: Global, command: Command<'a>) -> Result<Command<'a>, Error> {
-    let help_of_intervals = "Intervals of 95 % beside percentiles, by how samples hang together";
+    let help_of_intervals = "Intervals of 95 % beside percentiles, for correlated samples too";
     let intervals = flag(alloc, "ci", help_of_intervals).help_heading(FIGURES);
     let help_of_bars = "Draw how many numbers are in ranges of values, below the table";
     let bars = flag(alloc, "bars", help_of_bars).help_heading(FIGURES);
-    let help_of_every = "Print a line of figures each TIME of reading, such as 10s";
+    let help_of_every = "Print figures each TIME of reading, such as 10s; of a slow pipe from \
+        64 KiB on, or with --decimals";
     let every = option(alloc, "every", "TIME", help_of_every)
         .conflicts_with("by")?
         .conflicts_with("ci")?

@@ -15,7 +15,7 @@ use hdr_logs::{HistogramSink, LogError};
 use hdrhistogram::Histogram;
 use std::alloc::Global;
 
-/// How many batches show how samples hang together.
+/// How many batches show how correlated samples are.
 const FEWEST_BATCHES: usize = 4;
 
 /// The intervals of logs in batches of those that follow one another, for each of their sums.

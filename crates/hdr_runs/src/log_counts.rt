@@ -26,7 +26,6 @@ pub struct Scaled<'h> {
 /// What is counted of the samples of a tag: those within the bound of each level, and their sum.
 #[derive(Drop)]
 pub struct TagCounts {
-    /// The counts at each level, in order.
     counts: Vec<ClassCounts>,
     sum: SampleSum,
     /// The intervals of the tag in batches, if percentiles are to have confidence intervals.
@@ -350,8 +349,7 @@ impl LogCounts<'_, '_> {
     /// the samples of each in the tag of its sum.
     ///
     /// # Errors
-    /// As `LogSums::read_log`. Returns `NoUnit` if a level has a unit and the log has none, and
-    /// `OutOfMemory` if an allocation fails.
+    /// As `LogSums::read_log`; `NoUnit` if a level has a unit and the log none; `OutOfMemory`.
     pub fn read_log<R: Read + Drop>(
         &mut self,
         alloc: Global,

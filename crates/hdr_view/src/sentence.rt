@@ -3,7 +3,7 @@
 use crate::clock::push_length;
 use crate::kind::IncidentKind;
 use crate::name::{IN_SLOW_TIME, IN_TITLE};
-use crate::naming::{is_slow, push};
+use crate::naming::{LETTERS, is_slow, push};
 use crate::view::View;
 use hdr_draw::number::push_grouped;
 use hdr_verdict::{Episode, Incident};
@@ -66,13 +66,12 @@ impl View<'_> {
         let length = self.timeline.last.saturating_sub(self.timeline.first);
         self.push_markup(text, "<p class=\"say\">")?;
         if self.log.all.count == 0 {
-            text.push_str("No samples in ")?;
-            push_length(text, length)?;
+            text.push_str("No samples")?;
+            push_time(text, length)?;
             text.push_str(".")?;
         } else {
             push_count(text, self.log.all.count, "sample")?;
-            text.push_str(" in ")?;
-            push_length(text, length)?;
+            push_time(text, length)?;
             text.push_str(", ")?;
             push_count(text, self.log.tags.len() as u64, "tag")?;
             text.push_str(": ")?;
@@ -94,11 +93,8 @@ impl View<'_> {
         }
         text.push_str("slow")?;
         push_times(text, count)?;
-        if count > 1 {
-            match self.first_letter(Sort::Stalled) {
-                Some(letter) => write!(text, ", stalled in {letter}")?,
-                None => self.push_heaviest(text, Sort::Slow)?,
-            }
+        if count > 1 && !self.push_letters(text, ", stalled in ", Sort::Stalled)? {
+            self.push_heaviest(text, Sort::Slow)?;
         }
         let lasting = self.lasting_tags()?;
         if lasting.is_empty() {
@@ -130,13 +126,10 @@ impl View<'_> {
         }
         text.push_str("; samples missing")?;
         push_times(text, count)?;
-        if count == 1 {
+        if count == 1 || self.push_letters(text, ", no samples in ", Sort::Empty)? {
             return Ok(());
         }
-        match self.first_letter(Sort::Empty) {
-            Some(letter) => write!(text, ", no samples in {letter}"),
-            None => self.push_heaviest(text, Sort::Missing),
-        }
+        self.push_heaviest(text, Sort::Missing)
     }
 
     /// Returns the number of incidents of a sort.
@@ -150,22 +143,42 @@ impl View<'_> {
         count
     }
 
-    /// Returns the letter of the heaviest incident of a sort, if it has one.
-    fn first_letter(&self, sort: Sort) -> Option<&'static str> {
-        for (index, incident) in self.verdict.incidents.iter().enumerate() {
-            if sort.has(self, incident) {
-                return self.naming.letter(index);
+    /// Appends the letters of the incidents of a sort after `what`, in order of time. Returns whether
+    /// there are any.
+    fn push_letters(&self, text: &mut String, what: &str, sort: Sort) -> Result<bool, AllocError> {
+        let mut has_some = false;
+        for (line, letter) in self.naming.named.iter().zip(LETTERS) {
+            if self.has_sort(&line.all, sort) {
+                text.push_str(if has_some { ", " } else { what })?;
+                text.push_str(letter)?;
+                has_some = true;
             }
         }
-        None
+        Ok(has_some)
     }
 
-    /// Appends the letter of the heaviest incident of a sort.
-    fn push_heaviest(&self, text: &mut String, sort: Sort) -> Result<(), AllocError> {
-        match self.first_letter(sort) {
-            Some(letter) => write!(text, ", heaviest {letter}"),
-            None => Ok(()),
+    /// Whether one of the incidents of these indices is of a sort.
+    fn has_sort(&self, indices: &[usize], sort: Sort) -> bool {
+        for index in indices {
+            match self.verdict.incidents.get(*index) {
+                Some(incident) if sort.has(self, incident) => return true,
+                _ => {}
+            }
         }
+        false
+    }
+
+    /// Appends the letter of the heaviest incident of a sort, if it has one.
+    fn push_heaviest(&self, text: &mut String, sort: Sort) -> Result<(), AllocError> {
+        for (index, incident) in self.verdict.incidents.iter().enumerate() {
+            if sort.has(self, incident) {
+                return match self.naming.letter(index) {
+                    Some(letter) => write!(text, ", heaviest {letter}"),
+                    None => Ok(()),
+                };
+            }
+        }
+        Ok(())
     }
 
     /// Appends the greatest sample, and the tags that have it.
@@ -253,6 +266,15 @@ fn push_lasting(tags: &mut Vec<usize>, episode: &Episode) -> Result<(), AllocErr
         push(tags, episode.tag)?;
     }
     Ok(())
+}
+
+/// Appends how long the log is, unless its intervals have no length.
+fn push_time(text: &mut String, length: u64) -> Result<(), AllocError> {
+    if length == 0 {
+        return Ok(());
+    }
+    text.push_str(" in ")?;
+    push_length(text, length)
 }
 
 /// Appends a number and what is counted, in the plural unless it is 1.
