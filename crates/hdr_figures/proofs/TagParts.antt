@@ -44,12 +44,12 @@ ArePoints f left all sum = (parts : List (List StoredInterval)) × (points : Lis
 pub points_more : {K : Type 0} (f : K → StoredInterval) (part rest left all : List K) (point old sum next : Plain) → ArePoints f rest all sum → rest ≡ part ++ left
     → HasOwnClasses old → (hs : List Plain) → AreHistogramsOf (map f part) hs → point ≡ sum_of (after_reset old) hs → next ≡ after_add (2 ^ 64 - 1) sum point → ArePoints f left all next
 points_more f part rest left all point old sum next before cut own hs are is added = (
-    before.0 ++ map f part ∷ [],
-    before.1 ++ point ∷ [],
-    parts_more f before.0 part rest left (map f all) before.2 cut,
-    zip-push IsPointSum before.0 before.1 (map f part) point before.3 (hs, old, own, are, is),
-    sum_more (empty_plain 1 2 3 true) before.1 point sum next before.4 added,
-  )
+  before.0 ++ map f part ∷ [],
+  before.1 ++ point ∷ [],
+  parts_more f before.0 part rest left (map f all) before.2 cut,
+  zip-push IsPointSum before.0 before.1 (map f part) point before.3 (hs, old, own, are, is),
+  sum_more (empty_plain 1 2 3 true) before.1 point sum next before.4 added,
+)
 
 -- the parts of some of a log's intervals by tag, their sums, the figures of these, and the sum of all. `left` are the others
 pub record AreTags {K : Type 0} (f : K → StoredInterval) (left : List K) (intervals : List StoredInterval) (levels : List PageLevel) (tags : List TagFigures) (sum : Plain) : Type 0 where

@@ -10,7 +10,7 @@ pub loop-line-preserved : goal.loop-line-preserved
 loop-line-preserved c = record {
   start = found_so_far start_in c.loop-line.text.now c.in-Some.line.now c.in-Some.rest.now _ _ _ c.loop-line.invariant.start c.in-Some.ensures.parts c.or-found.ensures.start;
   decimals = found_so_far decimals_in c.loop-line.text.now c.in-Some.line.now c.in-Some.rest.now _ _ _ c.loop-line.invariant.decimals c.in-Some.ensures.parts c.or-found.ensures.decimals;
-  unit = found_so_far unit_in c.loop-line.text.now c.in-Some.line.now c.in-Some.rest.now _ _ _ c.loop-line.invariant.unit c.in-Some.ensures.parts c.or-found.ensures.unit
+  unit = found_so_far unit_in c.loop-line.text.now c.in-Some.line.now c.in-Some.rest.now _ _ _ c.loop-line.invariant.unit c.in-Some.ensures.parts c.or-found.ensures.unit;
 }
 
 nanos_of : (d : Option Duration) (zero : Duration) → as_nanos zero ≡ 0 → as_nanos (unwrap_or d zero) ≡ unwrap_or (option_map as_nanos d) 0
@@ -30,5 +30,5 @@ returns c =
       start_time = c.new.ensures.length ∙ ap as_nanos c.unwrap_or.ensures ∙ nanos_of c.loop-line.found.start _ refl ∙ ap (λ found. unwrap_or found 0) start;
       has_start_time = c.is_some.ensures ∙ has_nanos c.loop-line.found.start ∙ ap is_some start;
       decimals = c.unwrap_or-2.ensures ∙ ap (λ found. unwrap_or found 0) decimals;
-      unit_nanos = c.unwrap_or-3.ensures ∙ ap (λ found. unwrap_or found 0) unit
+      unit_nanos = c.unwrap_or-3.ensures ∙ ap (λ found. unwrap_or found 0) unit;
     }

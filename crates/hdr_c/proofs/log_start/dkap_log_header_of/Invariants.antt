@@ -10,7 +10,7 @@ abbrev pub invariant-loop-line : goal.invariant-loop-line
 invariant-loop-line l = record {
   start : option_or (option_map as_nanos l.found.start) (first_in start_in (parts 10 l.text)) ≡ first_in start_in (parts 10 l.log);
   decimals : option_or l.found.decimals (first_in decimals_in (parts 10 l.text)) ≡ first_in decimals_in (parts 10 l.log);
-  unit : option_or l.found.unit (first_in unit_in (parts 10 l.text)) ≡ first_in unit_in (parts 10 l.log)
+  unit : option_or l.found.unit (first_in unit_in (parts 10 l.text)) ≡ first_in unit_in (parts 10 l.log);
 }
 
 abbrev pub decreases-loop-line : goal.decreases-loop-line

@@ -38,8 +38,8 @@ loop-part-preserved c =
     let one = c.in_ok-length.samples.sum.histogram in
     record {
       tags = subst (λ tags. AreTags (λ (k : Key). k.interval.now) (chunk_by_rest c.next.new.self) c.args.intervals.now c.args.levels.now tags c.add.new.self.histogram) (sym c.in_ok-push_tag.ensures)
-      (tags_more (λ (k : Key). k.interval.now) c.in-Some.part.now _ _ c.args.intervals.now c.args.levels.now c.loop-part.tags.items c.in_ok-tag_figures.field-0 one c.loop-part.sum.histogram c.add.new.self.histogram
-      c.loop-part.invariant.tags c.in-Some.ensures.steps.0 found.sum (record { figures = subst (AreFiguresOf one) (sym tag.figures) found.figures; at_levels = tag.levels }) (tag.length ∙ found.length) c.in_ok-add.ensures.sum);
+          (tags_more (λ (k : Key). k.interval.now) c.in-Some.part.now _ _ c.args.intervals.now c.args.levels.now c.loop-part.tags.items c.in_ok-tag_figures.field-0 one c.loop-part.sum.histogram c.add.new.self.histogram
+          c.loop-part.invariant.tags c.in-Some.ensures.steps.0 found.sum (record { figures = subst (AreFiguresOf one) (sym tag.figures) found.figures; at_levels = tag.levels }) (tag.length ∙ found.length) c.in_ok-add.ensures.sum);
       own = found.classes;
     }
 

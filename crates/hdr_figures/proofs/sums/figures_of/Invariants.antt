@@ -8,5 +8,5 @@ use Rattle.hdr_figures.proofs.sums.figures_of.Given as goal
 abbrev pub invariant-loop-part : goal.invariant-loop-part
 invariant-loop-part l = record {
   tags : AreTags (λ (k : Key). k.interval.now) (chunk_by_rest l.part-iterator) l.fn.intervals l.levels l.tags.items l.sum.histogram;
-  own : HasOwnClasses l.sums.point.histogram
+  own : HasOwnClasses l.sums.point.histogram;
 }

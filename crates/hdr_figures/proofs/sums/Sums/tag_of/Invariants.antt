@@ -8,5 +8,5 @@ use Rattle.hdr_figures.proofs.sums.Sums.tag_of.Given as goal
 abbrev pub invariant-loop-part : goal.invariant-loop-part
 invariant-loop-part l = record {
   points : ArePoints (λ (k : Key). k.interval.now) (chunk_by_rest l.part-iterator) l.keys l.sum.histogram;
-  own : HasOwnClasses l.self.point.histogram
+  own : HasOwnClasses l.self.point.histogram;
 }
