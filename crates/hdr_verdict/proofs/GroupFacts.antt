@@ -6,7 +6,7 @@ use Rattle.hdr_logs.specs.declared.stored.StoredInterval.{StoredInterval}
 use Rattle.hdr_verdict.specs.declared.cell.Cell.{Cell}
 use Rattle.hdr_verdict.specs.declared.cell.Group.{Group}
 use Rattle.hdr_verdict.specs.Cells.{AreCounted, AreWithin, cell_of, cells_from, cells_of_group, cells_of_groups, cells_up_to, has_hole, hole_behind, span_of, time}
-use Rattle.hdr_verdict.specs.Groups.{AreGroupsOf, IsGroupOf, from_interval, group_of, groups_from, is_empty_at, with_empty, with_interval}
+use Rattle.hdr_verdict.specs.Groups.{AreGroupsOf, IsGroupOf, group_of, groups_from, is_empty_at, with_empty, with_interval}
 
 pub drop-one : {X : Type 0} (xs : List X) (i : ℕ) (d : X) → i < length xs → drop i xs ≡ get_or xs i d ∷ drop (i + 1) xs
 drop-one xs i d inside = drop-cons xs i d inside ∙ ap (λ k. get_or xs i d ∷ drop k xs) (sym (add-one i))
@@ -27,9 +27,9 @@ groups-in counts (Some group) i n (interval ∷ all) before within =
     let rest = λ (g : Group) (a : g.first ≤ g.next) (b : g.next ≤ i + 1). groups-in counts (Some g) (i + 1) n all (a, b) (omega arith) in
     let apart = group ∷ more (group_of interval i) in
     let joined = if ltb interval.start group.end then more (with_interval group interval i) else apart in
-    let begun = if is_empty_at counts group.first then more (from_interval group interval i) else joined in
+    let begun = if is_empty_at counts group.first then more (group_of interval i) else joined in
     either (is_empty_at counts i) n (more (with_empty group i)) begun (rest (with_empty group i) (omega arith) (omega arith))
-    (either (is_empty_at counts group.first) n (more (from_interval group interval i)) joined (rest (from_interval group interval i) (omega arith) (omega arith))
+    (either (is_empty_at counts group.first) n (more (group_of interval i)) joined (rest (group_of interval i) (omega arith) (omega arith))
     (either (ltb interval.start group.end) n (more (with_interval group interval i)) apart (rest (with_interval group interval i) (omega arith) (omega arith))
     (All-cons (IsGroupOf n) group (more (group_of interval i)) (first, omega arith) (rest (group_of interval i) (omega arith) (omega arith)))))
 

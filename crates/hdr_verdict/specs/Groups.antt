@@ -22,12 +22,9 @@ with_interval group interval i = record group {
   next = i + 1;
 }
 
--- a group with an interval without samples behind its last one, and one of such intervals with the first that has some
+-- a group with an interval without samples behind its last one
 abbrev pub with_empty : Group → ℕ → Group
 with_empty group i = record group { next = i + 1 }
-
-abbrev pub from_interval : Group → StoredInterval → ℕ → Group
-from_interval group interval i = record (group_of interval i) { first = group.first }
 
 -- the interval of an index has no samples
 abbrev pub is_empty_at : List ℕ → ℕ → Bool
@@ -35,14 +32,15 @@ is_empty_at counts i = slice_index counts i == 0
 
 -- the last group, if there is one, and the groups of the intervals from index i on, which have these numbers of samples: an interval is
 -- of the last group if it begins before the end of that, which is that of its first interval, or of a long one. An interval without
--- samples is as if it were not there: it is of the last group, and changes nothing of its time
+-- samples is as if it were not there: it is of the last group, and changes nothing of its time. A group of such intervals alone is
+-- replaced by that of the first interval with samples
 abbrev pub groups_from : List ℕ → Option Group → ℕ → List StoredInterval → List Group
 groups_from counts None i [] = []
 groups_from counts (Some group) i [] = group ∷ []
 groups_from counts None i (interval ∷ all) = groups_from counts (Some (group_of interval i)) (i + 1) all
 groups_from counts (Some group) i (interval ∷ all) =
     if is_empty_at counts i then groups_from counts (Some (with_empty group i)) (i + 1) all
-    else (if is_empty_at counts group.first then groups_from counts (Some (from_interval group interval i)) (i + 1) all
+    else (if is_empty_at counts group.first then groups_from counts (Some (group_of interval i)) (i + 1) all
     else (if nat_lt interval.start group.end then groups_from counts (Some (with_interval group interval i)) (i + 1) all
     else group ∷ groups_from counts (Some (group_of interval i)) (i + 1) all))
 

@@ -5,7 +5,7 @@ ghost use Rattle.std.specs.List.{slice_get};
 ghost use Rattle.hdr_logs.specs.declared.stored.StoredInterval.{StoredInterval};
 ghost use Rattle.hdr_verdict.specs.Cells.{cell_of, cells_of_group, cells_of_groups, cells_of_intervals, cells_up_to, has_hole, length_of, span_before_hole, span_of};
 ghost use Rattle.hdr_verdict.specs.Cells.{span_up_to, AreCounted, AreWithin};
-ghost use Rattle.hdr_verdict.specs.Groups.{from_interval, group_of, groups_from, is_empty_at, is_long_for, ninth_decile, stride_of, strides_from, with_empty, with_interval, AreGroupsOf, IsGroupOf};
+ghost use Rattle.hdr_verdict.specs.Groups.{group_of, groups_from, is_empty_at, is_long_for, ninth_decile, stride_of, strides_from, with_empty, with_interval, AreGroupsOf, IsGroupOf};
 
 use hdr_logs::StoredInterval;
 use std::alloc::{AllocError, Global};
@@ -87,17 +87,6 @@ impl Group {
         Group {
             next: index + 1,
             ..self
-        }
-    }
-
-    /// Returns a group of intervals without samples with the first interval that has some.
-    fn from_interval(self, interval: &StoredInterval, index: usize) -> Group
-        requires { index + 1 < 2 ^ 64 }
-        ensures { result ≡ from_interval self interval.now index }
-    {
-        Group {
-            first: self.first,
-            ..Group::of(interval, index)
         }
     }
 
@@ -249,7 +238,7 @@ fn after_interval(
 {
     match last {
         Some(group) if is_empty_at(counts, index) => Ok(group.with_empty(index)),
-        Some(group) if is_empty_at(counts, group.first) => Ok(group.from_interval(interval, index)),
+        Some(group) if is_empty_at(counts, group.first) => Ok(Group::of(interval, index)),
         Some(group) if interval.start < group.end => Ok(group.with(interval, index)),
         Some(group) => {
             groups.push(group)?;
