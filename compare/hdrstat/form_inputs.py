@@ -66,6 +66,15 @@ def check_output(random, form, read, unit):
     return texts, (out, note_of(read), status)
 
 
+def none_chosen(arguments):
+    """The note if the lines that these arguments choose are none."""
+    if "--match" in arguments:
+        return "--match finds no number"
+    if "--where" in arguments and "--count" not in arguments:
+        return f"no {'line' if '--json' in arguments else 'row'} has the text of each --where"
+    return ""
+
+
 def output_case(random, form):
     """A case of summary or check of a form, on standard input or in a file."""
     skips_bad, sigfig = random.random() < 0.4, random.choice([3, 3, 3, 2, 5])
@@ -76,6 +85,7 @@ def output_case(random, form):
     if form.decimals == MIXED:
         form.decimals = decimals_of_records(form.records)
     read = read_records(form.records, form.decimals, skips_bad, sigfig)
+    read.none_chosen = none_chosen(form.arguments)
     if is_check:
         more, wanted = check_output(random, form, read, unit)
     else:

@@ -69,6 +69,8 @@ class Read:
     groups: dict
     skipped: int = 0
     has_error: bool = False
+    # The note if a choice of lines has left none
+    none_chosen: str = ""
 
 
 def joined(groups):
@@ -131,6 +133,8 @@ def numbers_read(read):
 
 
 def note_of(read):
+    if read.none_chosen and not read.groups and not read.skipped:
+        return f"hdrstat: {read.none_chosen}\n".encode()
     return f"hdrstat: bad lines skipped: {read.skipped}\n".encode() if read.skipped else b""
 
 

@@ -116,7 +116,7 @@ def duration(random):
     """A duration as programs print it, or a text much like one."""
     names = ["h", "m", "s", "ms", "us", "\N{MICRO SIGN}s", "\N{GREEK SMALL LETTER MU}s", "ns"]
     parts = random.choice([["ms"], ["s"], ["h", "m", "s"], ["m", "s"], random.choices(names, k=random.randint(1, 7)), ["us"], ["\N{MICRO SIGN}s"], ["sec"]])
-    return random.choice(["", "", "", "+", "-"]) + "".join(digits(random, 2) + random.choice(["", "", ".", "." + digits(random, 3)]) + name for name in parts)
+    return random.choice(["", "", "", "+", "-"]) + "".join(digits(random, 2) + random.choice(["", "", ".", "." + digits(random, 3)]) + random.choice(["", "", "", " "]) + name for name in parts)
 
 
 def number_line(random, decimals):

@@ -114,7 +114,7 @@ def log_error(failure):
     """What standard error has, or None where the model does not say it."""
     name, line, text, why = failure.text
     if why == "log":
-        hint = "; `hdrstat log` makes a log of numbers" if line == "line 1" else ""
+        hint = "; `hdrstat log` makes a log of numbers, and `page --column` reads a table" if line == "line 1" else ""
         return f"hdrstat: {name}: {line}: `{shown(text)}` is not a line of an interval log{hint}\n".encode()
     if why == "other decimals":
         return f"hdrstat: {name}: {line}: the values have {text[0]} decimals, and others {text[1]}; `hdrstat gather --unsorted` makes one log of both\n".encode()

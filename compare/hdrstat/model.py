@@ -13,7 +13,7 @@ MOST_DECIMALS = 18
 MOST_DIGITS, SURVEYED = 15, 65536
 # The names of units of time, and how many of each are a second, as a power of ten, or how many seconds it is
 UNITS = {"ns": 9, "us": 6, "ms": 3, "s": 0}
-PART = re.compile("([0-9]+)(?:[.]([0-9]*))?(ns|us|\N{MICRO SIGN}s|\N{GREEK SMALL LETTER MU}s|ms|s|m|h)")
+PART = re.compile("([0-9]+)(?:[.]([0-9]*))? ?(ns|us|\N{MICRO SIGN}s|\N{GREEK SMALL LETTER MU}s|ms|s|m|h)")
 
 
 class Bad(Exception):

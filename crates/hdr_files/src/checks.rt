@@ -5,6 +5,7 @@ use crate::errors::StatError;
 use crate::files::{Files, or_standard_input};
 use crate::logs::{can_be_converted, parts_of, print_coarser};
 use crate::numbers::{Form, read_groups, read_sink, tag_of_group};
+use crate::runs::name_of;
 use hdr_compare::{Batching, Tier};
 use hdr_input::groups::{GroupMaker, GroupParts};
 use hdr_input::{Distribution, Recording};
@@ -16,7 +17,6 @@ use hdr_runs::{
 use hdr_summary::checks::CheckedSamples;
 use hdr_summary::decimals::Conversion;
 use hdr_summary::figures::Tagged;
-use hdr_summary::formats::NO_TAG;
 use hdr_summary::levels::Level;
 use hdr_summary::means::SampleSum;
 use hdr_summary::units::Unit;
@@ -74,11 +74,7 @@ impl Checked {
             let samples = CheckedSamples {
                 distribution: &part.distribution,
                 sum: part.sum,
-                tag: match &part.tag {
-                    Some(tag) => Some(tag.as_str()),
-                    None if has_tags => Some(NO_TAG),
-                    None => None,
-                },
+                tag: name_of(&part.tag, has_tags),
                 conversion,
             };
             for (check, level) in part.checks.iter().zip(levels) {

@@ -50,6 +50,21 @@ impl<'l, 'n> Form<'l, 'n> {
         Some(columns.groups)
     }
 
+    /// Returns a note that no line was chosen, if a choice of lines is all that can have left them
+    /// out.
+    pub(crate) fn note_of_none(self) -> Option<&'static str> {
+        match self {
+            Form::Match(_) => Some("--match finds no number"),
+            Form::Table(table) if chooses_rows(table.columns) => {
+                Some("no row has the text of each --where")
+            }
+            Form::Json(columns) if chooses_rows(columns) => {
+                Some("no line has the text of each --where")
+            }
+            _ => None,
+        }
+    }
+
     /// Returns the columns of a table or of JSON.
     fn columns(self) -> Option<Columns<'l, 'n>> {
         match self {
@@ -58,6 +73,11 @@ impl<'l, 'n> Form<'l, 'n> {
             Form::Json(columns) => Some(columns),
         }
     }
+}
+
+/// Whether rows are chosen by texts of columns, and each chosen one has a number.
+fn chooses_rows(columns: Columns<'_, '_>) -> bool {
+    !columns.conditions.is_empty() && columns.count.is_none()
 }
 
 /// Returns the numbers of files. How many lines were skipped and how many numbers were rounded is
@@ -88,7 +108,7 @@ pub(crate) fn read_sink<M: GroupMaker + Copy + Drop>(
         sink = sink_of(files.alloc(), maker, &mut numbers)?;
     }
     let tally = sink.tally();
-    numbers.print_notes(tally.skipped, tally.rounded);
+    numbers.print_notes(tally.numbers() == 0, tally.skipped, tally.rounded);
     Ok(sink)
 }
 
@@ -125,7 +145,7 @@ pub(crate) fn read_groups<M: GroupMaker + Copy + Drop>(
     if numbers.becomes_finer(parts.rounded)? {
         parts = groups_of(files, maker, columns, &mut numbers)?;
     }
-    numbers.print_notes(parts.skipped, parts.rounded);
+    numbers.print_notes(parts.sinks.is_empty(), parts.skipped, parts.rounded);
     Ok(parts)
 }
 

@@ -187,10 +187,15 @@ impl<'r, 'l, 'n, 'a, 'b> NumberFiles<'r, 'l, 'n, 'a, 'b> {
         }
     }
 
-    /// Prints on standard error how many lines were skipped, and how many numbers were rounded,
-    /// unless their decimals were chosen.
-    pub(crate) fn print_notes(&self, skipped: u64, rounded: u64) {
+    /// Prints on standard error that no line was chosen, if none was, how many lines were skipped,
+    /// and how many numbers were rounded, unless their decimals were chosen.
+    pub(crate) fn print_notes(&self, is_empty: bool, skipped: u64, rounded: u64) {
         let rt = self.files.rt;
+        if is_empty && skipped == 0 {
+            if let Some(note) = self.form.note_of_none() {
+                let _ = eprintln!(rt; "hdrstat: {note}");
+            }
+        }
         if skipped > 0 {
             let _ = eprintln!(rt; "hdrstat: bad lines skipped: {skipped}");
         }

@@ -33,8 +33,9 @@ pub fn read_intervals_of<'l, 'n>(
         intervals = Intervals::new(files.alloc(), numbers.recording, cut)?;
         numbers.read_rows_into(&mut intervals)?;
     }
-    numbers.print_notes(intervals.tally.skipped, intervals.tally.rounded);
-    require_most_lines(intervals.numbers(), intervals.tally.skipped)?;
+    let (read, tally) = (intervals.numbers(), &intervals.tally);
+    numbers.print_notes(read == 0, tally.skipped, tally.rounded);
+    require_most_lines(read, tally.skipped)?;
     Ok(intervals)
 }
 
@@ -183,9 +184,10 @@ pub fn print_log_as_read(
         return Err(error);
     }
     outcome?;
-    numbers.print_notes(log.read.tally.skipped, log.read.tally.rounded);
+    let (read, tally) = (log.read.numbers(), &log.read.tally);
+    numbers.print_notes(read == 0, tally.skipped, tally.rounded);
     print_late(rt, log.read.late());
-    require_most_lines(log.read.numbers(), log.read.tally.skipped)?;
+    require_most_lines(read, tally.skipped)?;
     let slices = log.read.take_all()?;
     log.print(alloc, &slices)
 }

@@ -18,6 +18,10 @@ BeginsWithName text (Of Microseconds) rest =
     (text ≡ 117 ∷ 115 ∷ rest) ⊎ (text ≡ 194 ∷ 181 ∷ 115 ∷ rest) ⊎ (text ≡ 206 ∷ 188 ∷ 115 ∷ rest)
 BeginsWithName text (Of Nanoseconds) rest = text ≡ 110 ∷ 115 ∷ rest
 
+-- a text begins with the name of a unit, or with a space and the name, and the rest follows
+abbrev pub BeginsWithUnit : List ℕ → PartUnit → List ℕ → Type 0
+BeginsWithUnit text unit rest = BeginsWithName text unit rest ⊎ ((name : List ℕ) × (text ≡ 32 ∷ name) × BeginsWithName name unit rest)
+
 -- a number of a unit in seconds
 abbrev pub in_seconds : Number → PartUnit → Number
 in_seconds x Hours = record { digits = x.digits * 3600; decimals = x.decimals }
@@ -36,11 +40,11 @@ abbrev pub sum_after : Number → List Number → Number
 sum_after x [] = x
 sum_after x (y ∷ ys) = sum_after (sum_of x y) ys
 
--- a text begins with a number and the name of a unit, which are this number of seconds, and the rest follows
+-- a text begins with a number and its unit, which are this number of seconds, and the rest follows
 abbrev pub BeginsWithPart : List ℕ → Number → List ℕ → Type 0
 BeginsWithPart text seconds rest =
     (x : Number) × (unit : PartUnit) × (after : List ℕ)
-    × BeginsWithNumber text x.digits x.decimals after × BeginsWithName after unit rest × (seconds ≡ in_seconds x unit)
+    × BeginsWithNumber text x.digits x.decimals after × BeginsWithUnit after unit rest × (seconds ≡ in_seconds x unit)
 
 -- a text is parts, one after another, which are these numbers of seconds
 abbrev pub AreParts : List ℕ → List Number → Type 0

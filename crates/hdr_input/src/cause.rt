@@ -58,6 +58,9 @@ pub enum Cause {
     /// Its line has no text at the path.
     #[error("has no number at that path; --skip-bad ignores such lines")]
     NoPath,
+    /// Its line has no text at the path of how often a number counts.
+    #[error("has no count at that path; --skip-bad ignores such lines")]
+    NoCount,
     /// Its line has no time at the path.
     #[error("has no time at that path; --skip-bad ignores such lines")]
     NoTime,

@@ -2,7 +2,7 @@
 
 ghost use Rattle.std.specs.Prelude.{◌≡◌, ◌<◌, List, ◌∷◌, length, IfSome};
 ghost use Rattle.hdr_input.specs.declared.number.Number.{Number};
-ghost use Rattle.hdr_input.specs.Durations.{BeginsWithName, BeginsWithPart, AreParts, IsDuration};
+ghost use Rattle.hdr_input.specs.Durations.{BeginsWithName, BeginsWithUnit, BeginsWithPart, AreParts, IsDuration};
 ghost use Rattle.hdr_input.specs.Durations.{in_seconds, sum_of, sum_after};
 
 use crate::number::{Number, plain_start};
@@ -35,6 +35,17 @@ fn split_name(text: &[u8]) -> Option<(PartUnit, &[u8])>
         [b'm', rest @ ..] => Some((PartUnit::Minutes, rest)),
         [b'h', rest @ ..] => Some((PartUnit::Hours, rest)),
         _ => None,
+    }
+}
+
+/// Splits a text after the unit that it begins with, which may follow a space.
+fn split_unit(text: &[u8]) -> Option<(PartUnit, &[u8])>
+    ensures length { IfSome result (λ p. length p.1.now < length text.now) }
+    ensures unit { IfSome result (λ p. BeginsWithUnit text.now p.0 p.1.now) }
+{
+    match text {
+        [b' ', name @ ..] => split_name(name),
+        _ => split_name(text),
     }
 }
 
@@ -72,14 +83,14 @@ fn sum_of(one: Number, other: Number) -> Option<Number>
     })
 }
 
-/// Parses the part that a text begins with, a number and the name of its unit. Returns it in
-/// seconds, with the rest.
+/// Parses the part that a text begins with, a number and its unit. Returns it in seconds, with the
+/// rest.
 fn first_part(text: &[u8]) -> Option<(Number, &[u8])>
     ensures length { IfSome result (λ p. length p.1.now < length text.now) }
     ensures part { IfSome result (λ p. BeginsWithPart text.now p.0 p.1.now) }
 {
     let (number, rest) = plain_start(text)?;
-    let (unit, rest) = split_name(rest)?;
+    let (unit, rest) = split_unit(rest)?;
     Some((unit.in_seconds(number)?, rest))
 }
 
@@ -99,7 +110,7 @@ fn add_parts(seconds: Number, text: &[u8], most: u32) -> Option<Number>
     add_parts(sum_of(seconds, part)?, rest, most - 1)
 }
 
-/// Parses a duration such as `12.3ms` or `1h2m3s`, and returns it in seconds. Returns `None` for
+/// Parses a duration such as `12.3ms`, `12.3 ms` or `1h2m3s`, and returns it in seconds. Returns `None` for
 /// another text, one of more than `MOST_PARTS` parts, and on overflow.
 fn seconds_of(text: &[u8]) -> Option<Number>
     ensures { IfSome result (λ n. (first : Number) × (parts : List Number)
@@ -114,7 +125,7 @@ pub(crate) fn is_duration(text: &[u8]) -> bool {
     seconds_of(text).is_some()
 }
 
-/// Parses a duration such as `12.3ms` or `1h2m3s`, and returns it in a unit. Returns `None` for
+/// Parses a duration such as `12.3ms`, `12.3 ms` or `1h2m3s`, and returns it in a unit. Returns `None` for
 /// another text, one of more than `MOST_PARTS` parts, and on overflow.
 pub(crate) fn parse_duration(text: &[u8], unit: Unit) -> Option<Number>
     ensures { IfSome result (λ n. IsDuration text.now n unit) }

@@ -161,12 +161,14 @@ fn row_of<'a>(
 ) -> Result<RowTexts<'a>, AllocError> {
     let group = join(columns.groups, root, joined)?;
     let count = optional_text(root, columns.count);
-    let has_count = count.is_some() || columns.count.is_none();
-    let value = text_at(root, columns.value).filter(|_| has_count);
+    let value = match text_at(root, columns.value) {
+        Some(_) if count.is_none() && columns.count.is_some() => Err(Cause::NoCount),
+        value => value.ok_or(Cause::NoPath),
+    };
     Ok(RowTexts {
         place,
         row: line,
-        value: value.ok_or(Cause::NoPath),
+        value,
         count,
         time: optional_text(root, columns.time),
         group,

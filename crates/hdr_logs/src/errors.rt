@@ -23,7 +23,7 @@ pub enum LogError {
         text: String,
     },
     /// The same of the first line.
-    #[error("{place}: `{text}` is not a line of an interval log; `hdrstat log` makes a log of numbers")]
+    #[error("{place}: `{text}` is not a line of an interval log; `hdrstat log` makes a log of numbers, and `page --column` reads a table")]
     NotALog {
         place: Place,
         text: String,

@@ -4,10 +4,11 @@ use crate::options::forms::{check_rows, form_of};
 use clap::ArgMatches;
 use hdr_files::{FileNames, Form, Reading, StatError};
 use hdr_input::columns::Condition;
+use hdr_input::group_texts::tag_text;
 use hdr_input::{Number, Recording};
 use hdr_summary::units::{Unit, in_unit, parse_amount};
 use hdrhistogram::serialization::interval_log::{IntervalChoice, Tag, TagChoice};
-use std::alloc::Global;
+use std::alloc::{AllocError, Global};
 use std::time::Duration;
 
 /// Returns how the input is read.
@@ -162,9 +163,19 @@ pub(crate) fn tag_of<'a>(
     let Some(text) = matches.get_str("tag") else {
         return Ok(None);
     };
-    let why = "is not a tag: it has a comma, a space or an end of line";
-    let tag = Tag::new(text).ok_or_else(|| StatError::usage(alloc, text, why))?;
-    Ok(Some(tag))
+    match Tag::new(text) {
+        Some(tag) => Ok(Some(tag)),
+        None => Err(not_a_tag(alloc, text)?),
+    }
+}
+
+/// Returns the error of a text that is not a tag, with the one that logs of groups have for it.
+fn not_a_tag(alloc: Global, text: &str) -> Result<StatError, AllocError> {
+    let escaped = tag_text(alloc, text)?;
+    let why = format!(in alloc;
+        "is not a tag: it has a comma, a space or an end of line; `log --by` writes it as {escaped}"
+    )?;
+    Ok(StatError::usage(alloc, text, why.as_str()))
 }
 
 /// Returns the time of an option in nanoseconds. It is in seconds if it has no unit.
