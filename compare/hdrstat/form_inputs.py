@@ -66,12 +66,12 @@ def check_output(random, form, read, unit):
     return texts, (out, note_of(read), status)
 
 
-def none_chosen(arguments):
-    """The note if the lines that these arguments choose are none."""
+def none_chosen(arguments, name):
+    """The note if the lines of a file that these arguments choose are none."""
     if "--match" in arguments:
-        return "--match finds no number"
+        return f"{name}: --match finds no number"
     if "--where" in arguments and "--count" not in arguments:
-        return f"no {'line' if '--json' in arguments else 'row'} has the text of each --where"
+        return f"{name}: no {'line' if '--json' in arguments else 'row'} has the text of each --where"
     return ""
 
 
@@ -85,7 +85,8 @@ def output_case(random, form):
     if form.decimals == MIXED:
         form.decimals = decimals_of_records(form.records)
     read = read_records(form.records, form.decimals, skips_bad, sigfig)
-    read.none_chosen = none_chosen(form.arguments)
+    is_file = random.random() < 0.4
+    read.none_chosen = none_chosen(form.arguments, "one" if is_file else "standard input")
     if is_check:
         more, wanted = check_output(random, form, read, unit)
     else:
@@ -94,7 +95,7 @@ def output_case(random, form):
         wanted = None, None, None
     if form.drops_names:
         wanted = wanted[0], None, wanted[2]
-    files, stdin = ({"one": form.data}, b"") if random.random() < 0.4 else ({}, form.data)
+    files, stdin = ({"one": form.data}, b"") if is_file else ({}, form.data)
     inputs = [word for name in files for word in (["-i", name] if is_check else [name])]
     command = "check" if is_check else "summary"
     return Case([command, *arguments, *inputs, *more], stdin, files, wanted)

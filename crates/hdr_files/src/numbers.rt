@@ -108,7 +108,7 @@ pub(crate) fn read_sink<M: GroupMaker + Copy + Drop>(
         sink = sink_of(files.alloc(), maker, &mut numbers)?;
     }
     let tally = sink.tally();
-    numbers.print_notes(tally.numbers() == 0, tally.skipped, tally.rounded);
+    numbers.print_notes(tally.numbers() == 0, tally.skipped, tally.rounded)?;
     Ok(sink)
 }
 
@@ -145,7 +145,7 @@ pub(crate) fn read_groups<M: GroupMaker + Copy + Drop>(
     if numbers.becomes_finer(parts.rounded)? {
         parts = groups_of(files, maker, columns, &mut numbers)?;
     }
-    numbers.print_notes(parts.sinks.is_empty(), parts.skipped, parts.rounded);
+    numbers.print_notes(parts.sinks.is_empty(), parts.skipped, parts.rounded)?;
     Ok(parts)
 }
 

@@ -123,7 +123,7 @@ pub fn read_numbers_by_period(
         return Err(error);
     }
     outcome?;
-    numbers.print_notes(all.numbers() == 0, all.skipped, all.rounded);
+    numbers.print_notes(all.numbers() == 0, all.skipped, all.rounded)?;
     require_most_lines(all.numbers(), all.skipped)?;
     Ok(all)
 }

@@ -92,7 +92,7 @@ fn read_number_run(
     if numbers.becomes_finer(run.rounded)? {
         run = number_run_of(files, form, &mut numbers)?;
     }
-    numbers.print_notes(run.numbers == 0, run.skipped, run.rounded);
+    numbers.print_notes(run.numbers == 0, run.skipped, run.rounded)?;
     require_most_lines(run.numbers, run.skipped)?;
     let has_one_file = files.names.len() <= 1;
     let mut tags = Vec::new(alloc);

@@ -9,6 +9,7 @@ use hdr_input::distribution::MOST_DECIMALS;
 use hdr_input::pieces::LineSink;
 use hdr_input::rows::RowSink;
 use hdr_input::{InputError, Recording, Survey};
+use std::alloc::AllocError;
 
 /// An input that cannot be read again, and its index among the files.
 #[derive(Drop)]
@@ -189,18 +190,21 @@ impl<'r, 'l, 'n, 'a, 'b> NumberFiles<'r, 'l, 'n, 'a, 'b> {
 
     /// Prints on standard error that no line was chosen, if none was, how many lines were skipped,
     /// and how many numbers were rounded, unless their decimals were chosen.
-    pub(crate) fn print_notes(&self, is_empty: bool, skipped: u64, rounded: u64) {
+    pub(crate) fn print_notes(
+        &self,
+        is_empty: bool,
+        skipped: u64,
+        rounded: u64,
+    ) -> Result<(), AllocError> {
         let rt = self.files.rt;
         if is_empty && skipped == 0 {
-            if let Some(note) = self.form.note_of_none() {
-                let _ = eprintln!(rt; "hdrstat: {note}");
-            }
+            self.print_note_of_none()?;
         }
         if skipped > 0 {
             let _ = eprintln!(rt; "hdrstat: bad lines skipped: {skipped}");
         }
         if rounded == 0 || self.recording.has_chosen_decimals {
-            return;
+            return Ok(());
         }
         let decimals = self.recording.decimals;
         let _ = if rounded == 1 {
@@ -210,6 +214,24 @@ impl<'r, 'l, 'n, 'a, 'b> NumberFiles<'r, 'l, 'n, 'a, 'b> {
                 "hdrstat: {rounded} numbers have more than {decimals} decimals, and were rounded"
             )
         };
+        Ok(())
+    }
+
+    /// Prints on standard error that no line was chosen, with the name of the file if there is one
+    /// alone.
+    fn print_note_of_none(&self) -> Result<(), AllocError> {
+        let Some(note) = self.form.note_of_none() else {
+            return Ok(());
+        };
+        let alloc = self.files.alloc();
+        let line = if self.files.names.len() <= 1 {
+            let file = self.files.name(0);
+            format!(in alloc; "hdrstat: {file}: {note}")?
+        } else {
+            format!(in alloc; "hdrstat: {note}")?
+        };
+        print_error_line(self.files.rt, line.as_str());
+        Ok(())
     }
 
     /// Surveys all numbers, if some were rounded and the files can be read again. Returns whether

@@ -34,7 +34,7 @@ pub fn read_intervals_of<'l, 'n>(
         numbers.read_rows_into(&mut intervals)?;
     }
     let (read, tally) = (intervals.numbers(), &intervals.tally);
-    numbers.print_notes(read == 0, tally.skipped, tally.rounded);
+    numbers.print_notes(read == 0, tally.skipped, tally.rounded)?;
     require_most_lines(read, tally.skipped)?;
     Ok(intervals)
 }
@@ -185,7 +185,7 @@ pub fn print_log_as_read(
     }
     outcome?;
     let (read, tally) = (log.read.numbers(), &log.read.tally);
-    numbers.print_notes(read == 0, tally.skipped, tally.rounded);
+    numbers.print_notes(read == 0, tally.skipped, tally.rounded)?;
     print_late(rt, log.read.late());
     require_most_lines(read, tally.skipped)?;
     let slices = log.read.take_all()?;

@@ -52,7 +52,7 @@ pub enum LogError {
         others: UnitName,
     },
     /// The values have a unit, and those of other intervals have none, or the other way round.
-    #[error("{place}: the values are in {unit}, and others in {others}; write the logs by the same --unit")]
+    #[error("{place}: the values are in {unit}, and others in {others}; a log has a unit if it begins with a line such as #[Values are in ms]")]
     MissingUnit {
         place: Place,
         unit: UnitName,
