@@ -1,7 +1,9 @@
 //! Distributions as bars: a line for each step of their values.
 
-ghost use Rattle.std.specs.Prelude.{◌≡◌, ◌≤◌, ◌+◌, length, IfOk};
-ghost use Rattle.hdr_summary.specs.Bars.{LeadTo, count_of};
+ghost use Rattle.std.specs.Prelude.{◌≡◌, ◌≤◌, ◌+◌, ℕ, List, length, IfOk};
+ghost use Rattle.hdr_model.specs.Plain.{resolution};
+ghost use Rattle.hdr_model.specs.Samples.{StandsFor};
+ghost use Rattle.hdr_summary.specs.Bars.{HaveOwn, LeadTo, count_of};
 
 use crate::classes::count_begun;
 use crate::decimals::{Conversion, in_parts};
@@ -69,6 +71,8 @@ pub fn steps_of(
 ) -> Result<Vec<Step>, AllocError>
     ensures few { IfOk result (λ steps. length steps.items ≤ 20) }
     ensures counts { IfOk result (λ steps. count_of steps.items ≡ histogram.now.total) }
+    ensures own { (S : List ℕ) → StandsFor histogram.now S
+        → IfOk result (λ steps. HaveOwn (resolution histogram.now) S steps.items) }
     ensures order { least ≤ greatest → IfOk result (λ steps. LeadTo least steps.items (greatest + 1)) }
 {
     let sixteenths = length_of(histogram, least, greatest);

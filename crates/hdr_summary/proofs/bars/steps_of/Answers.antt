@@ -1,8 +1,9 @@
 use Rattle.std.proofs.Common.{◌≡◌, ◌≤◌, ◌+◌, ◌-◌, length, [], ◌∷◌, ◌++◌, subst, sym, ap, ◌∙◌, arith}
 use Rattle.std.proofs.lemmas.List.{length-append}
 use Rattle.hdr_summary.specs.declared.bars.Step.{Step}
-use Rattle.hdr_summary.specs.Bars.{LeadTo, count_of}
-use Rattle.hdr_summary.proofs.StepsLead.{lead-append, count-append}
+use Rattle.hdr_model.specs.Plain.{resolution}
+use Rattle.hdr_summary.specs.Bars.{LeadTo, count_of, begun, HaveBegun}
+use Rattle.hdr_summary.proofs.StepsLead.{lead-append, count-append, begun-ascends, begun-append}
 use Rattle.hdr_summary.proofs.bars.steps_of.Goals as goal
 
 pub loop-preserved : goal.loop-preserved
@@ -20,6 +21,18 @@ loop-preserved c =
         let h : c.end_of-end.result + 1 ≤ c.args.greatest = omega (arith, c.if-end-greatest.false) in h,
         subst (λ l. LeadTo c.args.least l (c.end_of-end.result + 1)) (sym items) (lead-append c.args.least steps s ((c.loop.invariant.3 le).1) c.end_of-end.ensures),
       ),
+      λ S stands. (
+          let g = resolution c.args.histogram.now in
+          let end = c.end_of-end.result in
+          let so-far = c.loop.invariant.4 S stands in
+          let ends : c.count_begun.result ≡ begun g S end = c.count_begun.ensures.samples S stands in
+          let least : c.loop.below ≤ begun g S end = so-far.1 end c.end_of-end.ensures in
+          let upto : c.loop.below + c.saturating_sub-count.result ≡ begun g S end = omega (arith, ends, least, c.saturating_sub-count.ensures) in
+          let have : HaveBegun g S 0 (steps ++ s ∷ []) = begun-append g S 0 steps s so-far.0 (omega (arith, upto, c.loop.invariant.1)) in (
+            subst (λ l. HaveBegun g S 0 l) (sym items) have,
+            λ v le. (let h : c.loop.below + c.saturating_sub-count.result ≤ begun g S v = omega (arith, upto, begun-ascends g S end v (omega (arith, le))) in h),
+          )
+          ),
     )
 
 pub returns-clause-order : goal.returns-clause-order
@@ -28,4 +41,10 @@ returns-clause-order c = λ le. (
     let s : Step = record { lowest = c.loop.lowest; greatest = c.args.greatest; count = c.len.result - c.loop.below } in
     let items : c.push-2.new.self.items ≡ steps ++ s ∷ [] = c.in_ok-push-2.ensures.items in
     subst (λ l. LeadTo c.args.least l (c.args.greatest + 1)) (sym items) (lead-append c.args.least steps s ((c.loop.invariant.3 le).1) ((c.loop.invariant.3 le).0))
+    )
+
+pub returns-clause-own : goal.returns-clause-own
+returns-clause-own c = λ S stands. (
+    let s : Step = record { lowest = c.loop.lowest; greatest = c.args.greatest; count = c.len.result - c.loop.below } in
+    (c.loop.steps.items, s, c.in_ok-push-2.ensures.items, (c.loop.invariant.4 S stands).0)
     )
